@@ -13,3 +13,4 @@ pub mod QuotedViews
 pub mod BindingViews
 pub mod FaultViews
 pub mod CallsViews
+pub mod Accounts

@@ -1,6 +1,7 @@
 //! Recorded calls: what is kept of a recorded run of a program, and its text, one spelling for each. And the lines that strace writes.
 #![tactic(auto)]
 
+mod accounts;
 pub mod argument_parts;
 mod argument_values;
 mod bindings;
@@ -20,6 +21,7 @@ mod pairing;
 mod process_calls;
 mod processes;
 mod quoting;
+mod reader;
 pub mod reading;
 mod real_calls;
 pub mod recorded;

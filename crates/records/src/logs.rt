@@ -68,7 +68,13 @@ impl Bindings {
     }
 
     /// Adds that a descriptor is of a place.
-    pub(crate) fn add_place(&mut self, descriptor: u32, place: Vec<u8>) -> Result<(), AllocError> {
+    pub(crate) fn add_place(
+        &mut self,
+        alloc: Global,
+        descriptor: u32,
+        place: &[u8],
+    ) -> Result<(), AllocError> {
+        let place = Vec::from_slice(alloc, place)?;
         self.items.push(Binding::Place { descriptor, place })?;
         Ok(())
     }

@@ -3,7 +3,6 @@
 use crate::argument_values::{Mention, here_note};
 use crate::entries::{Outcome, Reason};
 use crate::forms::OnName;
-use crate::logs::Bindings;
 use crate::real_calls::RealCall;
 use crate::runs::{Run, Target};
 use crate::seen_calls::SeenCall;
@@ -27,8 +26,8 @@ fn target_here<'t>(
 
 /// Whether a status is asked of a descriptor itself: by an empty name.
 fn is_of_itself(seen: &SeenCall<'_>) -> bool {
-    seen.argument(1) == b"\"\"".as_slice()
-        && (seen.has(2, b"AT_EMPTY_PATH") || seen.has(3, b"AT_EMPTY_PATH"))
+    let is_unnamed = seen.argument(1) == b"\"\"".as_slice() || seen.has(1, b"NULL");
+    is_unnamed && (seen.has(2, b"AT_EMPTY_PATH") || seen.has(3, b"AT_EMPTY_PATH"))
 }
 
 /// What a node is.
@@ -39,12 +38,12 @@ fn add_status(
 ) -> Result<(), AllocError> {
     match target {
         Some(Target::Global(place)) => {
-            let real = RealCall::at(run.alloc, Call::Stat, place)?;
+            let real = RealCall::at(run.alloc, Call::Stat, &place)?;
             let bindings = run.unbound();
             run.add(seen, real, seen.outcome(), bindings)
         }
         Some(Target::Beneath(base, path)) => {
-            let real = RealCall::beneath(run.alloc, Call::Fstatat, base.number, path)?;
+            let real = RealCall::beneath(run.alloc, Call::Fstatat, base.number, &path)?;
             let bindings = run.bound(seen, base)?;
             run.add(seen, real, seen.outcome(), bindings)
         }
@@ -72,12 +71,12 @@ fn add_directory(
 ) -> Result<(), AllocError> {
     match target {
         Some(Target::Global(place)) => {
-            let real = RealCall::at(run.alloc, Call::Mkdir, place)?;
+            let real = RealCall::at(run.alloc, Call::Mkdir, &place)?;
             let bindings = run.unbound();
             run.add(seen, real, seen.outcome(), bindings)
         }
         Some(Target::Beneath(base, path)) => {
-            let real = RealCall::beneath(run.alloc, Call::Mkdirat, base.number, path)?;
+            let real = RealCall::beneath(run.alloc, Call::Mkdirat, base.number, &path)?;
             let bindings = run.bound(seen, base)?;
             run.add(seen, real, seen.outcome(), bindings)
         }
@@ -104,12 +103,12 @@ fn add_removal(
     let outcome = removal_outcome(seen, directory);
     match target {
         Some(Target::Global(place)) => {
-            let real = RealCall::unlink(run.alloc, place, directory)?;
+            let real = RealCall::unlink(run.alloc, &place, directory)?;
             let bindings = run.unbound();
             run.add(seen, real, outcome, bindings)
         }
         Some(Target::Beneath(base, path)) => {
-            let real = RealCall::unlinkat(run.alloc, base.number, path, directory)?;
+            let real = RealCall::unlinkat(run.alloc, base.number, &path, directory)?;
             let bindings = run.bound(seen, base)?;
             run.add(seen, real, outcome, bindings)
         }
@@ -118,24 +117,15 @@ fn add_removal(
 }
 
 /// The directory and the path of one side of a rename: of a global name, the first directory and the path from it.
-fn side_of<'t>(
-    run: &Run,
-    seen: &SeenCall<'_>,
-    bindings: &mut Bindings,
-    target: Target<'t>,
-) -> Result<(u32, Vec<u8>), AllocError> {
+fn side_of<'t>(run: &Run, target: Target<'t>) -> Result<(Mention<'t>, Vec<u8>), AllocError> {
     match target {
-        Target::Beneath(base, path) => {
-            run.processes.bind(bindings, seen.process, base)?;
-            Ok((base.number, path))
-        }
+        Target::Beneath(base, path) => Ok((base, path)),
         Target::Global(place) => {
             let root = Mention {
                 number: ROOT,
                 note: b"/",
             };
-            run.processes.bind(bindings, seen.process, root)?;
-            Ok((ROOT, below_root(run, &place)?))
+            Ok((root, below_root(run, &place)?))
         }
     }
 }
@@ -159,10 +149,14 @@ fn add_rename(
     let (Some(source), Some(target)) = (source, target) else {
         return run.omit(seen, Reason::Unknown);
     };
-    let mut bindings = run.unbound();
-    let (from, path) = side_of(run, seen, &mut bindings, source)?;
-    let (to, target_path) = side_of(run, seen, &mut bindings, target)?;
-    let real = RealCall::renameat(run.alloc, from, path, to, target_path)?;
+    let (from, path) = side_of(run, source)?;
+    let (to, target_path) = side_of(run, target)?;
+    let bindings = if from.number == to.number {
+        run.bound(seen, from)?
+    } else {
+        run.bound_both(seen, from, to)?
+    };
+    let real = RealCall::renameat(run.alloc, from.number, &path, to.number, &target_path)?;
     run.add(seen, real, removal_outcome(seen, true), bindings)
 }
 

@@ -1,6 +1,5 @@
 //! Opens, as calls.
 
-use crate::argument_values::Mention;
 use crate::entries::{Outcome, Reason};
 use crate::forms::Opening;
 use crate::held::Kept;
@@ -81,14 +80,15 @@ fn opened(run: &mut Run, seen: &SeenCall<'_>, target: &Target<'_>) -> Result<Kep
 fn hold(
     run: &mut Run,
     seen: &SeenCall<'_>,
-    target: &Target<'_>,
-    made: Mention<'_>,
+    target: &Option<Target<'_>>,
     closes_on_exec: bool,
 ) -> Result<(), AllocError> {
-    let kept = if made.note.is_empty() {
-        opened(run, seen, target)?
-    } else {
-        run.processes.kept_of_note(made.note)?
+    let Some(made) = seen.made() else {
+        return Ok(());
+    };
+    let kept = match target {
+        Some(target) if made.note.is_empty() => opened(run, seen, target)?,
+        _ => run.processes.kept_of_note(made.note)?,
     };
     run.processes
         .set(seen.process, made.number, kept, closes_on_exec)
@@ -104,10 +104,10 @@ fn add_open(
 ) -> Result<(), AllocError> {
     let mut bindings = run.unbound();
     let real = match target {
-        Target::Global(place) => RealCall::open(run.alloc, place, flags)?,
+        Target::Global(place) => RealCall::open(run.alloc, &place, flags)?,
         Target::Beneath(base, path) => {
             run.processes.bind(&mut bindings, seen.process, base)?;
-            RealCall::openat(run.alloc, base.number, path, flags)?
+            RealCall::openat(run.alloc, base.number, &path, flags)?
         }
     };
     if let Some(made) = seen.made() {
@@ -119,16 +119,15 @@ fn add_open(
 /// Takes an open.
 pub(crate) fn take(run: &mut Run, seen: &SeenCall<'_>, opening: Opening) -> Result<(), AllocError> {
     let at = opening.path() + 1;
-    let Some(target) = opening.target(run, seen)? else {
-        return run.omit(seen, Reason::Unknown);
+    let target = opening.target(run, seen)?;
+    hold(run, seen, &target, seen.has(at, b"O_CLOEXEC"))?;
+    let outcome = if is_asked_more(seen, at) {
+        None
+    } else {
+        seen.outcome()
     };
-    if let Some(made) = seen.made() {
-        hold(run, seen, &target, made, seen.has(at, b"O_CLOEXEC"))?;
-    }
-    match (opening.flags(seen), seen.outcome()) {
-        (Some(flags), Some(outcome)) if !is_asked_more(seen, at) => {
-            add_open(run, seen, target, flags, outcome)
-        }
+    match (target, opening.flags(seen), outcome) {
+        (Some(target), Some(flags), Some(outcome)) => add_open(run, seen, target, flags, outcome),
         _ => run.omit(seen, Reason::Unknown),
     }
 }

@@ -24,7 +24,7 @@ pub(crate) fn begin_child(
     child: u32,
     is_thread: bool,
 ) -> Result<(), AllocError> {
-    if run.processes.find(child).is_some() {
+    if run.processes.find_going_on(child).is_some() {
         return Ok(());
     }
     if is_thread {
@@ -82,7 +82,7 @@ pub(crate) fn add_end(run: &mut Run, seen: &SeenCall<'_>) -> Result<(), AllocErr
 
 /// The end of a thread: of the process, where it is its first one.
 fn add_thread_end(run: &mut Run, seen: &SeenCall<'_>) -> Result<(), AllocError> {
-    if seen.thread == run.processes.number(seen.process) {
+    if run.processes.is_leader(seen.process, seen.thread) {
         add_end(run, seen)
     } else {
         run.omit(seen, Reason::Quiet)

@@ -11,8 +11,10 @@ use std::collections::BTreeMap;
 /// A process.
 #[derive(Drop)]
 pub(crate) struct Process {
-    /// Its number in the record.
+    /// Its number in the record: 0 where the record had none when it began.
     pub number: u32,
+    /// Its first thread.
+    pub leader: u32,
     /// Its current directory, as the number of a place.
     pub directory: Option<usize>,
     /// Its root directory, if that isn't the first one.
@@ -50,13 +52,39 @@ impl Processes {
         }
     }
 
-    /// The process of this thread, if it is known and goes on.
+    /// The process of this thread, if it is known.
     pub(crate) fn find(&self, thread: u32) -> Option<usize> {
-        let index = *self.threads.get(&thread)?;
+        self.threads.get(&thread).copied()
+    }
+
+    /// The process of this thread, if it is known and goes on.
+    pub(crate) fn find_going_on(&self, thread: u32) -> Option<usize> {
+        let index = self.find(thread)?;
         match self.processes.get(index) {
             Some(process) if !process.has_ended => Some(index),
             _ => None,
         }
+    }
+
+    /// Whether a thread is the first one of a process.
+    pub(crate) fn is_leader(&self, process: usize, thread: u32) -> bool {
+        match self.processes.get(process) {
+            Some(process) => process.leader == thread,
+            None => false,
+        }
+    }
+
+    /// Takes a thread for the first one of a process that the record gave no number yet.
+    pub(crate) fn take_for_leader(
+        &mut self,
+        process: usize,
+        thread: u32,
+    ) -> Result<(), AllocError> {
+        self.threads.insert(thread, process)?;
+        if let Some(process) = self.processes.get_mut(process) {
+            process.leader = thread;
+        }
+        Ok(())
     }
 
     /// Adds a process of this number.
@@ -72,6 +100,7 @@ impl Processes {
         let table = Table::first(self.alloc)?;
         self.add(Process {
             number,
+            leader: number,
             directory: None,
             root: None,
             table,
@@ -87,6 +116,7 @@ impl Processes {
         };
         let child = Process {
             number,
+            leader: number,
             directory: from.directory,
             root: from.root,
             table: from.table.copy(self.alloc)?,
@@ -338,7 +368,7 @@ impl Processes {
         }
     }
 
-    /// Adds of which place a descriptor is: that of its note, or else a known one, or the end that the note tells.
+    /// Adds what a descriptor is that isn't known to be an end: what its note tells, or else a known place.
     fn bind_place(
         &self,
         bindings: &mut Bindings,
@@ -346,16 +376,17 @@ impl Processes {
         known: Option<&[u8]>,
     ) -> Result<(), AllocError> {
         if let Some(place) = place_note(mention.note) {
-            return bindings.add_place(mention.number, unescaped(self.alloc, place)?);
+            let place = unescaped(self.alloc, place)?;
+            return bindings.add_place(self.alloc, mention.number, &place);
         }
-        if let Some(place) = known {
-            return bindings.add_place(mention.number, Vec::from_slice(self.alloc, place)?);
+        if let Kept::End(pair, side) = self.end_of_note(mention.note)
+            && !mention.note.is_empty()
+        {
+            return bindings.add_end(mention.number, pair, side);
         }
-        match self.end_of_note(mention.note) {
-            Kept::End(pair, side) if !mention.note.is_empty() => {
-                bindings.add_end(mention.number, pair, side)
-            }
-            _ => Ok(()),
+        match known {
+            Some(place) => { bindings.add_place(self.alloc, mention.number, place) }
+            None => Ok(()),
         }
     }
 }

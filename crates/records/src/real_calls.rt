@@ -70,11 +70,11 @@ impl RealCall {
     }
 
     /// A call that is given a path.
-    pub(crate) fn at(alloc: Global, call: Call, path: Vec<u8>) -> Result<RealCall, AllocError>
+    pub(crate) fn at(alloc: Global, call: Call, path: &[u8]) -> Result<RealCall, AllocError>
         requires { operand_kinds (call_of call) ≡ A_path ∷ [] }
     {
         let mut operands = Vec::new(alloc);
-        operands.push(Operand::Path(path))?;
+        operands.push(Operand::Path(Vec::from_slice(alloc, path)?))?;
         Ok(RealCall { call, operands })
     }
 
@@ -83,24 +83,24 @@ impl RealCall {
         alloc: Global,
         call: Call,
         number: u32,
-        path: Vec<u8>,
+        path: &[u8],
     ) -> Result<RealCall, AllocError>
         requires { operand_kinds (call_of call) ≡ A_number ∷ A_path ∷ [] }
     {
         let mut operands = Vec::new(alloc);
         operands.push(Operand::Number(number))?;
-        operands.push(Operand::Path(path))?;
+        operands.push(Operand::Path(Vec::from_slice(alloc, path)?))?;
         Ok(RealCall { call, operands })
     }
 
     /// An open of a path.
     pub(crate) fn open(
         alloc: Global,
-        path: Vec<u8>,
+        path: &[u8],
         flags: OpenFlags,
     ) -> Result<RealCall, AllocError> {
         let mut operands = Vec::new(alloc);
-        operands.push(Operand::Path(path))?;
+        operands.push(Operand::Path(Vec::from_slice(alloc, path)?))?;
         operands.push(Operand::Flags(flags))?;
         Ok(RealCall {
             call: Call::Open,
@@ -112,12 +112,12 @@ impl RealCall {
     pub(crate) fn openat(
         alloc: Global,
         number: u32,
-        path: Vec<u8>,
+        path: &[u8],
         flags: OpenFlags,
     ) -> Result<RealCall, AllocError> {
         let mut operands = Vec::new(alloc);
         operands.push(Operand::Number(number))?;
-        operands.push(Operand::Path(path))?;
+        operands.push(Operand::Path(Vec::from_slice(alloc, path)?))?;
         operands.push(Operand::Flags(flags))?;
         Ok(RealCall {
             call: Call::Openat,
@@ -128,11 +128,11 @@ impl RealCall {
     /// The removal of a path.
     pub(crate) fn unlink(
         alloc: Global,
-        path: Vec<u8>,
+        path: &[u8],
         directory: bool,
     ) -> Result<RealCall, AllocError> {
         let mut operands = Vec::new(alloc);
-        operands.push(Operand::Path(path))?;
+        operands.push(Operand::Path(Vec::from_slice(alloc, path)?))?;
         operands.push(Operand::Directory(directory))?;
         Ok(RealCall {
             call: Call::Unlink,
@@ -144,12 +144,12 @@ impl RealCall {
     pub(crate) fn unlinkat(
         alloc: Global,
         number: u32,
-        path: Vec<u8>,
+        path: &[u8],
         directory: bool,
     ) -> Result<RealCall, AllocError> {
         let mut operands = Vec::new(alloc);
         operands.push(Operand::Number(number))?;
-        operands.push(Operand::Path(path))?;
+        operands.push(Operand::Path(Vec::from_slice(alloc, path)?))?;
         operands.push(Operand::Directory(directory))?;
         Ok(RealCall {
             call: Call::Unlinkat,
@@ -161,15 +161,15 @@ impl RealCall {
     pub(crate) fn renameat(
         alloc: Global,
         number: u32,
-        path: Vec<u8>,
+        path: &[u8],
         target: u32,
-        target_path: Vec<u8>,
+        target_path: &[u8],
     ) -> Result<RealCall, AllocError> {
         let mut operands = Vec::new(alloc);
         operands.push(Operand::Number(number))?;
-        operands.push(Operand::Path(path))?;
+        operands.push(Operand::Path(Vec::from_slice(alloc, path)?))?;
         operands.push(Operand::Number(target))?;
-        operands.push(Operand::Path(target_path))?;
+        operands.push(Operand::Path(Vec::from_slice(alloc, target_path)?))?;
         Ok(RealCall {
             call: Call::Renameat,
             operands,

@@ -1,0 +1,269 @@
+//! How the lines of a record are gone through, one after another.
+
+ghost use Rattle.std.specs.Prelude.{◌≡◌, IfOk, true};
+ghost use Rattle.records.specs.Calls.{are_calls};
+ghost use Rattle.records.specs.EntryViews.{calls_seen};
+
+use crate::argument_parts::arguments;
+use crate::entries::{Entry, Reason};
+use crate::forms::{Form, OnProcess, form_of};
+use crate::logs::{CallName, When};
+use crate::process_calls::{begin_child, is_thread};
+use crate::runs::Run;
+use crate::seen_calls::SeenCall;
+use crate::strace::{StraceLine, Told};
+use crate::strace_results::{Answer, CallResult};
+use crate::taken_calls;
+use std::alloc::{AllocError, Global};
+use std::collections::BTreeMap;
+use std::mem;
+
+/// A call that has begun.
+#[derive(Drop)]
+struct Begun {
+    line: u32,
+    name: Vec<u8>,
+    arguments: Vec<u8>,
+}
+
+/// A record as its lines are gone through.
+#[derive(Drop)]
+pub(crate) struct Reader {
+    run: Run,
+    /// The calls that have begun, by their threads.
+    begun: BTreeMap<u32, Begun>,
+    /// The thread that began a fork last.
+    forking: Option<u32>,
+}
+
+/// What a call came to of which nothing is told.
+const UNTOLD: CallResult<'static> = CallResult {
+    answer: Answer::Unknown,
+    note: None,
+    error: None,
+};
+
+impl Reader {
+    /// Before the first line.
+    pub(crate) fn new(alloc: Global) -> Reader {
+        Reader {
+            run: Run::new(alloc),
+            begun: BTreeMap::new(alloc),
+            forking: None,
+        }
+    }
+
+    /// The process whose fork began last and hasn't ended, and whether it makes a thread.
+    fn forked(&self) -> Option<(usize, bool)> {
+        let parent = self.forking?;
+        let begun = self.begun.get(&parent)?;
+        if !is_fork(&begun.name) {
+            return None;
+        }
+        Some((
+            self.run.processes.find(parent)?,
+            is_thread(&begun.arguments),
+        ))
+    }
+
+    /// The process of a thread: of one that isn't known, the child of the fork that began last.
+    fn process_of(&mut self, thread: u32) -> Result<usize, AllocError> {
+        if let Some(process) = self.known_process(thread) {
+            return Ok(process);
+        }
+        if let Some((parent, is_thread)) = self.forked() {
+            begin_child(&mut self.run, parent, thread, is_thread)?;
+        }
+        if let Some(process) = self.run.processes.find(thread) {
+            return Ok(process);
+        }
+        if let Some(process) = self.run.processes.find(0) {
+            self.run.processes.take_for_leader(process, thread)?;
+            return Ok(process);
+        }
+        self.run.processes.begin(thread)
+    }
+
+    /// The process of a thread, if it is known: not of one that is the first of a process which has ended, while a fork may make another of its number.
+    fn known_process(&self, thread: u32) -> Option<usize> {
+        let process = self.run.processes.find(thread)?;
+        let may_be_new = self.run.processes.is_leader(process, thread) && self.forked().is_some();
+        if may_be_new {
+            return self.run.processes.find_going_on(thread);
+        }
+        Some(process)
+    }
+
+    /// Takes a call of a thread that began at a line and ends at another.
+    fn take_call(
+        &mut self,
+        first: u32,
+        last: u32,
+        thread: u32,
+        name: CallName<'_>,
+        text: &[u8],
+        returned: CallResult<'_>,
+    ) -> Result<(), AllocError> {
+        let process = self.process_of(thread)?;
+        let number = self.run.processes.number(process);
+        let seen = SeenCall {
+            when: When::new(first, last, number),
+            process,
+            thread,
+            name,
+            arguments: arguments(self.run.alloc, text)?,
+            returned,
+        };
+        taken_calls::take(&mut self.run, &seen)
+    }
+
+    /// Takes the beginning of a call.
+    fn begin(
+        &mut self,
+        line: u32,
+        thread: u32,
+        name: &[u8],
+        arguments: &[u8],
+    ) -> Result<(), AllocError> {
+        self.process_of(thread)?;
+        let alloc = self.run.alloc;
+        if is_fork(name) {
+            self.forking = Some(thread);
+        }
+        let begun = Begun {
+            line,
+            name: Vec::from_slice(alloc, name)?,
+            arguments: Vec::from_slice(alloc, arguments)?,
+        };
+        if let Some(earlier) = self.begun.insert(thread, begun)? {
+            self.give_up(thread, earlier)?;
+        }
+        Ok(())
+    }
+
+    /// Takes the end of a call.
+    fn resume(
+        &mut self,
+        line: u32,
+        thread: u32,
+        name: &[u8],
+        rest: &[u8],
+        returned: CallResult<'_>,
+    ) -> Result<(), AllocError> {
+        let Some(mut begun) = self.begun.remove(&thread) else {
+            return Ok(());
+        };
+        if begun.name.as_slice() != name {
+            self.begun.insert(thread, begun)?;
+            return Ok(());
+        }
+        begun.arguments.extend_from_slice(rest)?;
+        match CallName::new(name) {
+            Some(name) => self.take_call(
+                begun.line,
+                line,
+                thread,
+                name,
+                &begun.arguments,
+                returned,
+            ),
+            None => Ok(()),
+        }
+    }
+
+    /// Takes a call that never came back: it is left out, but for the end of a process.
+    fn give_up(&mut self, thread: u32, begun: Begun) -> Result<(), AllocError> {
+        let Some(name) = CallName::new(&begun.name) else {
+            return Ok(());
+        };
+        if is_end(&begun.name) {
+            return self.take_call(
+                begun.line,
+                begun.line,
+                thread,
+                name,
+                &begun.arguments,
+                UNTOLD,
+            );
+        }
+        let process = self.process_of(thread)?;
+        let number = self.run.processes.number(process);
+        let when = When::new(begun.line, begun.line, number);
+        self.run
+            .log
+            .add_left_out(self.run.alloc, when, Reason::Unknown, name)
+    }
+
+    /// Takes the end of a thread: of its process, where it is the first one and goes on.
+    fn end(&mut self, line: u32, thread: u32) -> Result<(), AllocError> {
+        if let Some(begun) = self.begun.remove(&thread) {
+            self.give_up(thread, begun)?;
+        }
+        let Some(process) = self.run.processes.find(thread) else {
+            return Ok(());
+        };
+        if self.run.processes.is_leader(process, thread) && self.run.processes.end(process) {
+            let number = self.run.processes.number(process);
+            self.run.log.add_end(When::new(line, line, number))?;
+        }
+        Ok(())
+    }
+
+    /// Takes that a thread goes on with the call that another one began.
+    fn supersede(&mut self, thread: u32, other: u32) -> Result<(), AllocError> {
+        if let Some(begun) = self.begun.remove(&other)
+            && let Some(earlier) = self.begun.insert(thread, begun)?
+        {
+            self.give_up(thread, earlier)?;
+        }
+        Ok(())
+    }
+
+    /// Takes a line. One that fits no call that has begun, or isn't understood, gives nothing.
+    pub(crate) fn take(&mut self, number: u32, line: &StraceLine<'_>) -> Result<(), AllocError> {
+        let thread = line.process.unwrap_or(0);
+        match line.told {
+            Told::Finished {
+                name,
+                arguments,
+                returned,
+            } => match CallName::new(name) {
+                Some(name) => self.take_call(number, number, thread, name, arguments, returned),
+                None => Ok(()),
+            },
+            Told::Unfinished { name, arguments } => self.begin(number, thread, name, arguments),
+            Told::Resumed {
+                name,
+                arguments,
+                returned,
+            } => self.resume(number, thread, name, arguments, returned),
+            Told::Exited(_) | Told::Killed(_) => self.end(number, thread),
+            Told::Superseded(other) => self.supersede(thread, other),
+            _ => Ok(()),
+        }
+    }
+
+    /// The entries, behind the last line.
+    pub(crate) fn finish(mut self) -> Result<Vec<Entry>, AllocError>
+        ensures { IfOk result (λ entries. are_calls (calls_seen entries.items) ≡ true) }
+    {
+        let left = mem::replace(&mut self.begun, BTreeMap::new(self.run.alloc));
+        for (thread, begun) in left {
+            self.give_up(thread, begun)?;
+        }
+        Ok(self.run.log.into_entries())
+    }
+}
+
+/// Whether a call makes processes.
+fn is_fork(name: &[u8]) -> bool {
+    matches!(form_of(name), Some(Form::Process(OnProcess::Fork)))
+}
+
+/// Whether a call ends a process.
+fn is_end(name: &[u8]) -> bool {
+    matches!(
+        form_of(name),
+        Some(Form::Process(OnProcess::End | OnProcess::EndThread))
+    )
+}
