@@ -58,17 +58,22 @@ fn is_asked_more(seen: &SeenCall<'_>, at: usize) -> bool {
         || (seen.has(at, b"O_NOFOLLOW") && seen.fails_with(b"ELOOP"))
 }
 
+/// The place that a target is at, if it is known.
+fn place_of(
+    run: &Run,
+    seen: &SeenCall<'_>,
+    target: &Target<'_>,
+) -> Result<Option<Vec<u8>>, AllocError> {
+    match target {
+        Target::Global(place) => Ok(Some(Vec::from_slice(run.alloc, place)?)),
+        Target::Beneath(base, path) => run.place_beneath(seen.process, base.number, path),
+    }
+}
+
 /// What an opened descriptor is of, where the record doesn't note it.
 fn opened(run: &mut Run, seen: &SeenCall<'_>, target: &Target<'_>) -> Result<Kept, AllocError> {
-    let place = match target {
-        Target::Global(place) => Vec::from_slice(run.alloc, place)?,
-        Target::Beneath(base, path) => match run.processes.kept(seen.process, base.number) {
-            Kept::Place(number) => {
-                let place = run.processes.place(number).unwrap_or(b"");
-                run.joined(place, path)?
-            }
-            _ => return Ok(Kept::Unknown),
-        },
+    let Some(place) = place_of(run, seen, target)? else {
+        return Ok(Kept::Unknown);
     };
     Ok(match run.processes.keep_place(place)? {
         Some(number) => Kept::Place(number),

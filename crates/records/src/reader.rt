@@ -243,15 +243,21 @@ impl Reader {
         }
     }
 
-    /// The entries, behind the last line.
-    pub(crate) fn finish(mut self) -> Result<Vec<Entry>, AllocError>
-        ensures { IfOk result (λ entries. are_calls (calls_seen entries.items) ≡ true) }
-    {
+    /// Gives up the calls that haven't ended, behind the last line.
+    fn give_up_all(&mut self) -> Result<(), AllocError> {
         let left = mem::replace(&mut self.begun, BTreeMap::new(self.run.alloc));
         for (thread, begun) in left {
             self.give_up(thread, begun)?;
         }
-        Ok(self.run.log.into_entries())
+        Ok(())
+    }
+
+    /// The entries, behind the last line.
+    pub(crate) fn finish(mut self) -> Result<Vec<Entry>, AllocError>
+        ensures { IfOk result (λ entries. are_calls (calls_seen entries.items) ≡ true) }
+    {
+        self.give_up_all()?;
+        Ok(self.run.into_entries())
     }
 }
 

@@ -1,11 +1,13 @@
 //! A record as it is gone through: the entries so far, and what is known of the processes.
 
-ghost use Rattle.std.specs.Prelude.{◌≡◌, [], ◌∷◌};
+ghost use Rattle.std.specs.Prelude.{◌≡◌, [], ◌∷◌, true};
 ghost use Rattle.rights.specs.Views.{call_of};
-ghost use Rattle.records.specs.Calls.{A_number, operand_kinds};
+ghost use Rattle.records.specs.Calls.{A_number, are_calls, operand_kinds};
+ghost use Rattle.records.specs.EntryViews.{calls_seen};
 
 use crate::argument_values::{Mention, here_note, place_note};
-use crate::entries::{Outcome, Reason};
+use crate::entries::{Entry, Outcome, Reason};
+use crate::held::Kept;
 use crate::logs::{Bindings, Came, Log};
 use crate::other_rights::OtherRight;
 use crate::processes::Processes;
@@ -40,6 +42,13 @@ impl Run {
             log: Log::new(alloc),
             processes: Processes::new(alloc),
         }
+    }
+
+    /// The entries.
+    pub(crate) fn into_entries(self) -> Vec<Entry>
+        ensures { are_calls (calls_seen result.items) ≡ true }
+    {
+        self.log.into_entries()
     }
 
     /// Leaves a call out.
@@ -224,6 +233,22 @@ impl Run {
         match self.directory_of(process) {
             Some(place) => Ok(Some(self.joined(place, path)?)),
             None => Ok(None),
+        }
+    }
+
+    /// The place that a path beneath a number of a process has, if that of the number is known.
+    pub(crate) fn place_beneath(
+        &self,
+        process: usize,
+        number: u32,
+        path: &[u8],
+    ) -> Result<Option<Vec<u8>>, AllocError> {
+        match self.processes.kept(process, number) {
+            Kept::Place(place) => match self.processes.place(place) {
+                Some(place) => Ok(Some(self.joined(place, path)?)),
+                None => Ok(None),
+            },
+            _ => Ok(None),
         }
     }
 
