@@ -14,3 +14,4 @@ pub mod Rows
 pub mod PartLaws
 pub mod Limits
 pub mod Within
+pub mod AccountLaws
