@@ -1,4 +1,5 @@
-//! Recorded calls: what is kept of a recorded run of a program, and its text, one spelling for each. And the lines that strace writes.
+//! Recorded calls: what is kept of a recorded run of a program, and its text, one spelling for each. And what the lines that strace writes tell,
+//! and what calls they are.
 #![tactic(auto)]
 
 mod accounts;

@@ -67,6 +67,14 @@ impl Bindings {
         }
     }
 
+    /// Adds what a descriptor is.
+    fn add(&mut self, binding: Binding) -> Result<(), AllocError>
+        requires { is_binding (binding_seen binding) ≡ true }
+    {
+        self.items.push(binding)?;
+        Ok(())
+    }
+
     /// Adds that a descriptor is of a place.
     pub(crate) fn add_place(
         &mut self,
@@ -75,8 +83,7 @@ impl Bindings {
         place: &[u8],
     ) -> Result<(), AllocError> {
         let place = Vec::from_slice(alloc, place)?;
-        self.items.push(Binding::Place { descriptor, place })?;
-        Ok(())
+        self.add(Binding::Place { descriptor, place })
     }
 
     /// Adds that a descriptor is an end of a pair.
@@ -86,12 +93,11 @@ impl Bindings {
         pair: u32,
         side: Side,
     ) -> Result<(), AllocError> {
-        self.items.push(Binding::End {
+        self.add(Binding::End {
             descriptor,
             pair,
             side,
-        })?;
-        Ok(())
+        })
     }
 }
 

@@ -1,5 +1,7 @@
 //! Opens, as calls.
 
+ghost use Rattle.std.specs.Prelude.{◌≤◌};
+
 use crate::entries::{Outcome, Reason};
 use crate::forms::Opening;
 use crate::held::Kept;
@@ -11,7 +13,9 @@ use std::alloc::AllocError;
 
 impl Opening {
     /// Which argument the path is.
-    fn path(self) -> usize {
+    fn path(self) -> usize
+        ensures { result ≤ 1 }
+    {
         match self {
             Opening::At => 1,
             Opening::Plain | Opening::Creat => 0,
