@@ -46,7 +46,7 @@ pub(crate) fn inside(note: &[u8]) -> &[u8] {
 /// Whether a descriptor's number may end before this text.
 fn ends_number(text: &[u8]) -> bool {
     match text {
-        [] | [b'<' | b']' | b' ', ..] => true,
+        [] | [b'<' | b']' | b',' | b' ', ..] => true,
         _ => false,
     }
 }
