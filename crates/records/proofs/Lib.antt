@@ -14,4 +14,3 @@ pub mod Rows
 pub mod PartLaws
 pub mod Limits
 pub mod Within
-pub mod AccountLaws

@@ -1,6 +1,7 @@
 -- Which lines of a record its entries account for. (own)
-use Rattle.std.specs.Prelude.{◌≡◌, ◌==◌, ◌<◌, ◌≤◌, ◌^◌, ◌||◌, ℕ, Bool, true, List}
+use Rattle.std.specs.Prelude.{◌≡◌, ◌==◌, ◌<◌, ◌^◌, ◌&&◌, ◌||◌, ℕ, Bool, List, nat_le, nat_lt}
 use Rattle.std.specs.List.{list_any}
+use Rattle.std.proofs.Math.Bool.{not}
 use Rattle.records.specs.Calls.{RecordedCalls}
 
 -- a call of an entry begins or ends in the line of this number
@@ -14,7 +15,11 @@ is_listed line lines = list_any (λ n. n == line) lines
 abbrev pub is_in_lists : ℕ → List ℕ → List ℕ → Bool
 is_in_lists line misread silent = is_listed line misread || is_listed line silent
 
--- No line of so many is passed over, up to the number that 32 bits hold: a call begins or ends in it, or it is in a list.
-abbrev pub AreTold : ℕ → RecordedCalls → List ℕ → List ℕ → Type 0
-AreTold count calls misread silent =
-    (line : ℕ) → 0 < line → line ≤ count → line < 2 ^ 32 → (is_end_of line calls || is_in_lists line misread silent) ≡ true
+-- a line is one of so many, which are counted from 1
+abbrev pub is_line_of : ℕ → ℕ → Bool
+is_line_of count line = nat_lt 0 line && nat_le line count
+
+-- Both lists have the lines, of so many, in which no call of an entry begins or ends, and no others. 32 bits hold the numbers.
+abbrev pub ListTheOthers : ℕ → RecordedCalls → List ℕ → List ℕ → Type 0
+ListTheOthers count calls misread silent =
+    count < 2 ^ 32 → (line : ℕ) → is_in_lists line misread silent ≡ (is_line_of count line && not (is_end_of line calls))

@@ -1,7 +1,8 @@
 //! Which lines of a record its entries account for.
 
-ghost use Rattle.std.specs.Prelude.{◌≡◌, ◌+◌, ◌<◌, ◌^◌, ◌||◌, ◌==◌, ℕ, IfOk, OnOk, false, length, slice_index_or, true};
-ghost use Rattle.records.specs.Accounts.{is_end_of, is_in_lists, AreTold};
+ghost use Rattle.std.specs.Prelude.{◌≡◌, ◌+◌, ◌<◌, ◌^◌, ◌&&◌, ◌||◌, ◌==◌, ℕ, IfOk, OnOk, false, length, nat_lt, slice_index_or, vec_len};
+ghost use Rattle.std.proofs.Math.Bool.{not};
+ghost use Rattle.records.specs.Accounts.{is_end_of, is_in_lists, is_line_of, ListTheOthers};
 ghost use Rattle.records.specs.EntryViews.{calls_seen};
 
 use crate::entries::Entry;
@@ -45,7 +46,7 @@ pub(crate) fn line_number(index: usize) -> u32
 
 /// Marks a line, by its number, if there is a mark for it.
 fn mark(marks: &mut [bool], line: u32)
-    ensures { (k : ℕ) → slice_index_or marks.new k false ≡ true → (slice_index_or marks.old k false || (line == k)) ≡ true }
+    ensures { (k : ℕ) → slice_index_or marks.new k false ≡ (slice_index_or marks.old k false || ((line == k) && nat_lt k (length marks.old))) }
 {
     let at = line as usize;
     if at < marks.len() {
@@ -55,7 +56,8 @@ fn mark(marks: &mut [bool], line: u32)
 
 /// Marks for so many lines and 0, none of them set.
 fn unmarked(alloc: Global, count: usize) -> Result<Vec<bool>, AllocError>
-    ensures { IfOk result (λ marks. (k : ℕ) → slice_index_or marks.items k false ≡ false) }
+    ensures long { IfOk result (λ marks. vec_len marks ≡ count + 1) }
+    ensures unset { IfOk result (λ marks. (k : ℕ) → slice_index_or marks.items k false ≡ false) }
 {
     let mut marks = Vec::new(alloc);
     marks.push(false)?;
@@ -65,23 +67,30 @@ fn unmarked(alloc: Global, count: usize) -> Result<Vec<bool>, AllocError>
     Ok(marks)
 }
 
-/// Marks of the lines in which calls begin or end, by their numbers.
+/// Marks the lines in which calls begin or end, by their numbers.
+fn mark_ends(marks: &mut [bool], entries: &[Entry])
+    ensures { (k : ℕ) → slice_index_or marks.new k false ≡ (slice_index_or marks.old k false || (is_end_of k (calls_seen entries.now) && nat_lt k (length marks.old))) }
+{
+    for entry in entries {
+        mark(marks, entry.span.first);
+        mark(marks, entry.span.last);
+    }
+}
+
+/// Marks for so many lines and 0, of which those are set in which calls begin or end.
 fn marked(alloc: Global, count: usize, entries: &[Entry]) -> Result<Vec<bool>, AllocError>
-    ensures { IfOk result (λ marks. (k : ℕ) → slice_index_or marks.items k false ≡ true → is_end_of k (calls_seen entries.now) ≡ true) }
+    ensures { IfOk result (λ marks. (k : ℕ) → slice_index_or marks.items k false ≡ (is_end_of k (calls_seen entries.now) && nat_lt k (count + 1))) }
 {
     let mut marks = unmarked(alloc, count)?;
-    for entry in entries {
-        mark(&mut marks, entry.span.first);
-        mark(&mut marks, entry.span.last);
-    }
+    mark_ends(&mut marks, entries);
     Ok(marks)
 }
 
 impl Accounts {
     /// Takes a line of this number.
     fn take(&mut self, number: u32, is_silent: bool, is_marked: bool) -> Result<(), AllocError>
-        ensures kept { (line : ℕ) → is_in_lists line self.old.misread.items self.old.silent.items ≡ true → is_in_lists line self.new.misread.items self.new.silent.items ≡ true }
-        ensures taken { OnOk result ((is_marked || is_in_lists number self.new.misread.items self.new.silent.items) ≡ true) }
+        ensures { OnOk result ((line : ℕ) → is_in_lists line self.new.misread.items self.new.silent.items
+            ≡ (is_in_lists line self.old.misread.items self.old.silent.items || (not is_marked && (number == line)))) }
     {
         if is_marked {
             return Ok(());
@@ -111,8 +120,8 @@ fn accounts_of(
     lines: &[StraceLine<'_>],
     marks: &[bool],
 ) -> Result<Accounts, AllocError>
-    ensures { IfOk result (λ accounts. (k : ℕ) → k < length lines.now → k + 1 < 2 ^ 32 →
-        (slice_index_or marks.now (k + 1) false || is_in_lists (k + 1) accounts.misread.items accounts.silent.items) ≡ true) }
+    ensures { length lines.now < 2 ^ 32 → IfOk result (λ accounts. (line : ℕ) → is_in_lists line accounts.misread.items accounts.silent.items
+        ≡ (is_line_of (length lines.now) line && not (slice_index_or marks.now line false))) }
 {
     let mut accounts = Accounts {
         misread: Vec::new(alloc),
@@ -125,13 +134,13 @@ fn accounts_of(
     Ok(accounts)
 }
 
-/// The lines in which no call of these entries begins or ends: each other line is in one.
+/// The lines in which no call of these entries begins or ends.
 pub(crate) fn account(
     alloc: Global,
     lines: &[StraceLine<'_>],
     entries: &[Entry],
 ) -> Result<Accounts, AllocError>
-    ensures { IfOk result (λ accounts. AreTold (length lines.now) (calls_seen entries.now) accounts.misread.items accounts.silent.items) }
+    ensures { IfOk result (λ accounts. ListTheOthers (length lines.now) (calls_seen entries.now) accounts.misread.items accounts.silent.items) }
 {
     let marks = marked(alloc, lines.len(), entries)?;
     accounts_of(alloc, lines, &marks)

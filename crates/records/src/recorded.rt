@@ -2,7 +2,7 @@
 
 ghost use Rattle.std.specs.Prelude.{◌≡◌, IfOk, length, true};
 ghost use Rattle.texts.specs.Lines.{lines_of};
-ghost use Rattle.records.specs.Accounts.{AreTold};
+ghost use Rattle.records.specs.Accounts.{ListTheOthers};
 ghost use Rattle.records.specs.Calls.{are_calls};
 ghost use Rattle.records.specs.EntryViews.{calls_seen};
 
@@ -35,11 +35,11 @@ fn entries_of(alloc: Global, lines: &[StraceLine<'_>]) -> Result<Vec<Entry>, All
 }
 
 /// What a record that `strace -f` has written is as calls: an entry for each, in the order in which they end. The entries are within the
-/// limits of recorded calls, and no line is passed over: a call of an entry begins or ends in it, or its number is in one of the lists. Only
+/// limits of recorded calls, and no line is passed over: the lists have just the lines in which no call of an entry begins or ends. Only
 /// want of memory may come instead. A line past 4294967295 is told by that number.
 pub fn recorded_calls(alloc: Global, text: &[u8]) -> Result<Recorded, AllocError>
     ensures within { IfOk result (λ recorded. are_calls (calls_seen recorded.entries.items) ≡ true) }
-    ensures told { IfOk result (λ recorded. AreTold (length (lines_of text.now)) (calls_seen recorded.entries.items) recorded.misread.items recorded.silent.items) }
+    ensures others { IfOk result (λ recorded. ListTheOthers (length (lines_of text.now)) (calls_seen recorded.entries.items) recorded.misread.items recorded.silent.items) }
 {
     let lines = read_strace(alloc, text)?;
     let entries = entries_of(alloc, &lines)?;
