@@ -98,15 +98,25 @@ pub(crate) fn has_word(text: &[u8], word: &[u8]) -> bool {
     &text[start..] == word
 }
 
-/// Whether an argument asks that a descriptor be closed where the process goes on as another program.
-pub(crate) fn has_cloexec(argument: &[u8]) -> bool {
-    has_word(argument, b"SOCK_CLOEXEC")
-        || has_word(argument, b"EPOLL_CLOEXEC")
-        || has_word(argument, b"EFD_CLOEXEC")
-        || has_word(argument, b"TFD_CLOEXEC")
-        || has_word(argument, b"IN_CLOEXEC")
-        || has_word(argument, b"SFD_CLOEXEC")
-        || has_word(argument, b"MFD_CLOEXEC")
+/// The flags by which a descriptor is made that is closed where the process goes on as another program.
+const CLOSES_ON_EXEC: [&str; 7] = [
+    "SOCK_CLOEXEC",
+    "EPOLL_CLOEXEC",
+    "EFD_CLOEXEC",
+    "TFD_CLOEXEC",
+    "IN_CLOEXEC",
+    "SFD_CLOEXEC",
+    "MFD_CLOEXEC",
+];
+
+/// Whether an argument has a flag by which a descriptor is closed where the process goes on as another program.
+pub(crate) fn closes_on_exec(argument: &[u8]) -> bool {
+    for flag in &CLOSES_ON_EXEC {
+        if has_word(argument, flag.as_bytes()) {
+            return true;
+        }
+    }
+    false
 }
 
 /// The place that a note tells, still with its escapes, if it tells one.

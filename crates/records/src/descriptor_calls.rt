@@ -146,17 +146,27 @@ fn add_new_flags(
     run.add_with(seen, Call::FcntlSetfl, mention, flags, seen.outcome())
 }
 
+/// The fcntl commands that work on locks.
+const LOCKS: [&str; 9] = [
+    "F_SETLK",
+    "F_SETLKW",
+    "F_GETLK",
+    "F_OFD_SETLK",
+    "F_OFD_SETLKW",
+    "F_OFD_GETLK",
+    "F_SETLK64",
+    "F_SETLKW64",
+    "F_GETLK64",
+];
+
 /// Whether an fcntl works on locks.
 fn is_lock(seen: &SeenCall<'_>) -> bool {
-    seen.has(1, b"F_SETLK")
-        || seen.has(1, b"F_SETLKW")
-        || seen.has(1, b"F_GETLK")
-        || seen.has(1, b"F_OFD_SETLK")
-        || seen.has(1, b"F_OFD_SETLKW")
-        || seen.has(1, b"F_OFD_GETLK")
-        || seen.has(1, b"F_SETLK64")
-        || seen.has(1, b"F_SETLKW64")
-        || seen.has(1, b"F_GETLK64")
+    for lock in &LOCKS {
+        if seen.has(1, lock.as_bytes()) {
+            return true;
+        }
+    }
+    false
 }
 
 /// An fcntl.

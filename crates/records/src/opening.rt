@@ -89,7 +89,7 @@ fn opened(run: &mut Run, seen: &SeenCall<'_>, target: &Target<'_>) -> Result<Kep
 fn hold(
     run: &mut Run,
     seen: &SeenCall<'_>,
-    target: &Option<Target<'_>>,
+    target: Option<&Target<'_>>,
     closes_on_exec: bool,
 ) -> Result<(), AllocError> {
     let Some(made) = seen.made() else {
@@ -129,7 +129,7 @@ fn add_open(
 pub(crate) fn take(run: &mut Run, seen: &SeenCall<'_>, opening: Opening) -> Result<(), AllocError> {
     let at = opening.path() + 1;
     let target = opening.target(run, seen)?;
-    hold(run, seen, &target, seen.has(at, b"O_CLOEXEC"))?;
+    hold(run, seen, target.as_ref(), seen.has(at, b"O_CLOEXEC"))?;
     let outcome = if is_asked_more(seen, at) {
         None
     } else {

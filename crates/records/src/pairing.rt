@@ -1,6 +1,6 @@
 //! Calls that make descriptors which are of no node, as calls.
 
-use crate::argument_values::{Mention, has_cloexec, mentions_of};
+use crate::argument_values::{Mention, closes_on_exec, mentions_of};
 use crate::entries::{Outcome, Reason};
 use crate::forms::Pairing;
 use crate::held::Kept;
@@ -82,9 +82,9 @@ pub(crate) fn take(run: &mut Run, seen: &SeenCall<'_>, pairing: Pairing) -> Resu
 }
 
 /// Whether a descriptor of the world is made so that it is closed where the process goes on as another program.
-fn closes_on_exec(seen: &SeenCall<'_>) -> bool {
+fn is_made_closing(seen: &SeenCall<'_>) -> bool {
     for argument in &seen.arguments {
-        if has_cloexec(argument) {
+        if closes_on_exec(argument) {
             return true;
         }
     }
@@ -100,7 +100,7 @@ pub(crate) fn take_world(run: &mut Run, seen: &SeenCall<'_>) -> Result<(), Alloc
             _ => run.omit(seen, Reason::Unknown),
         };
     };
-    let closes_on_exec = closes_on_exec(seen);
+    let closes_on_exec = is_made_closing(seen);
     run.processes.set(
         seen.process,
         made.number,
