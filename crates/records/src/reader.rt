@@ -34,6 +34,8 @@ pub(crate) struct Reader {
     begun: BTreeMap<u32, Begun>,
     /// The thread that began a fork last.
     forking: Option<u32>,
+    /// The thread of lines that tell none: 0 as long as it isn't known.
+    unnamed: u32,
 }
 
 /// What a call came to of which nothing is told.
@@ -50,6 +52,7 @@ impl Reader {
             run: Run::new(alloc),
             begun: BTreeMap::new(alloc),
             forking: None,
+            unnamed: 0,
         }
     }
 
@@ -77,11 +80,20 @@ impl Reader {
         if let Some(process) = self.run.processes.find(thread) {
             return Ok(process);
         }
-        if let Some(process) = self.run.processes.find(0) {
-            self.run.processes.take_for_leader(process, thread)?;
-            return Ok(process);
+        match self.run.processes.find(0) {
+            Some(process) if self.unnamed == 0 => self.take_for_unnamed(process, thread),
+            _ => self.run.processes.begin(thread),
         }
-        self.run.processes.begin(thread)
+    }
+
+    /// Takes a thread for the one of the lines before, which told none: it goes on with the call that began there.
+    fn take_for_unnamed(&mut self, process: usize, thread: u32) -> Result<usize, AllocError> {
+        self.run.processes.take_for_leader(process, thread)?;
+        self.unnamed = thread;
+        if let Some(begun) = self.begun.remove(&0) {
+            self.begun.insert(thread, begun)?;
+        }
+        Ok(process)
     }
 
     /// The process of a thread, if it is known: not of one that is the first of a process which has ended, while a fork may make another of its number.
@@ -150,6 +162,7 @@ impl Reader {
         rest: &[u8],
         returned: CallResult<'_>,
     ) -> Result<(), AllocError> {
+        self.process_of(thread)?;
         let Some(mut begun) = self.begun.remove(&thread) else {
             return Ok(());
         };
@@ -221,7 +234,7 @@ impl Reader {
 
     /// Takes a line. One that fits no call that has begun, or isn't understood, gives nothing.
     pub(crate) fn take(&mut self, number: u32, line: &StraceLine<'_>) -> Result<(), AllocError> {
-        let thread = line.process.unwrap_or(0);
+        let thread = line.process.unwrap_or(self.unnamed);
         match line.told {
             Told::Finished {
                 name,
