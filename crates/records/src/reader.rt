@@ -26,14 +26,21 @@ struct Begun {
     arguments: Vec<u8>,
 }
 
+/// A fork that has begun: its thread and its line.
+#[derive(Clone, Copy)]
+struct BegunFork {
+    thread: u32,
+    line: u32,
+}
+
 /// A record as its lines are gone through.
 #[derive(Drop)]
 pub(crate) struct Reader {
     run: Run,
     /// The calls that have begun, by their threads.
     begun: BTreeMap<u32, Begun>,
-    /// The thread that began a fork last.
-    forking: Option<u32>,
+    /// The forks that have begun and of which no child is known yet, or which have ended.
+    forks: Vec<BegunFork>,
     /// The thread of lines that tell none: 0 as long as it isn't known.
     unnamed: u32,
 }
@@ -51,22 +58,31 @@ impl Reader {
         Reader {
             run: Run::new(alloc),
             begun: BTreeMap::new(alloc),
-            forking: None,
+            forks: Vec::new(alloc),
             unnamed: 0,
         }
     }
 
-    /// The process whose fork began last and hasn't ended, and whether it makes a thread.
-    fn forked(&self) -> Option<(usize, bool)> {
-        let parent = self.forking?;
-        let begun = self.begun.get(&parent)?;
-        if !is_fork(&begun.name) {
+    /// The process of a fork, and whether it makes a thread: nothing where the fork has ended.
+    fn forking(&self, fork: BegunFork) -> Option<(usize, bool)> {
+        let begun = self.begun.get(&fork.thread)?;
+        if begun.line != fork.line {
             return None;
         }
-        Some((
-            self.run.processes.find(parent)?,
-            is_thread(&begun.arguments),
-        ))
+        let process = self.run.processes.find(fork.thread)?;
+        Some((process, is_thread(&begun.arguments)))
+    }
+
+    /// The same of the fork that began last, of those that haven't ended and of which no child is known.
+    fn last_fork(&mut self) -> Option<(usize, bool)> {
+        for _ in 0..self.forks.len() {
+            let fork = self.forks.last().copied()?;
+            if let Some(forking) = self.forking(fork) {
+                return Some(forking);
+            }
+            self.forks.pop();
+        }
+        None
     }
 
     /// The process of a thread: of one that isn't known, the child of the fork that began last.
@@ -74,7 +90,8 @@ impl Reader {
         if let Some(process) = self.known_process(thread) {
             return Ok(process);
         }
-        if let Some((parent, is_thread)) = self.forked() {
+        if let Some((parent, is_thread)) = self.last_fork() {
+            self.forks.pop();
             begin_child(&mut self.run, parent, thread, is_thread)?;
         }
         if let Some(process) = self.run.processes.find(thread) {
@@ -97,9 +114,10 @@ impl Reader {
     }
 
     /// The process of a thread, if it is known: not of one that is the first of a process which has ended, while a fork may make another of its number.
-    fn known_process(&self, thread: u32) -> Option<usize> {
+    fn known_process(&mut self, thread: u32) -> Option<usize> {
         let process = self.run.processes.find(thread)?;
-        let may_be_new = self.run.processes.is_leader(process, thread) && self.forked().is_some();
+        let may_be_new = self.run.processes.is_leader(process, thread)
+            && self.last_fork().is_some();
         if may_be_new {
             return self.run.processes.find_going_on(thread);
         }
@@ -140,7 +158,7 @@ impl Reader {
         self.process_of(thread)?;
         let alloc = self.run.alloc;
         if is_fork(name) {
-            self.forking = Some(thread);
+            self.forks.push(BegunFork { thread, line })?;
         }
         let begun = Begun {
             line,
