@@ -1,9 +1,9 @@
 //! Calls with real operands, of the kinds that each call is given.
 
-ghost use Rattle.std.specs.Prelude.{◌≡◌, [], ◌∷◌, map, true};
+ghost use Rattle.std.specs.Prelude.{◌≡◌, [], ◌∷◌, IfOk, map, true};
 ghost use Rattle.rights.specs.Views.{call_of};
 ghost use Rattle.records.specs.OperandViews.{operand_seen};
-ghost use Rattle.records.specs.Calls.{A_choice, A_number, A_path, Open_flags, are_of_kinds, operand_kinds};
+ghost use Rattle.records.specs.Calls.{A_number, A_path, Directory, Flags, Number, Path, are_of_kinds, operand_kinds};
 
 use crate::operands::Operand;
 use rights::{Call, OpenFlags};
@@ -21,6 +21,8 @@ impl RealCall {
     /// A call that is given nothing.
     pub(crate) fn alone(alloc: Global, call: Call) -> RealCall
         requires { operand_kinds (call_of call) ≡ [] }
+        ensures call { result.call ≡ call }
+        ensures operands { result.operands.items ≡ [] }
     {
         RealCall {
             call,
@@ -31,6 +33,8 @@ impl RealCall {
     /// A call that is given a number.
     pub(crate) fn on(alloc: Global, call: Call, number: u32) -> Result<RealCall, AllocError>
         requires { operand_kinds (call_of call) ≡ A_number ∷ [] }
+        ensures call { IfOk result (λ real. real.call ≡ call) }
+        ensures operands { IfOk result (λ real. map operand_seen real.operands.items ≡ Number number ∷ []) }
     {
         let mut operands = Vec::new(alloc);
         operands.push(Operand::Number(number))?;
@@ -45,6 +49,8 @@ impl RealCall {
         value: u32,
     ) -> Result<RealCall, AllocError>
         requires { operand_kinds (call_of call) ≡ A_number ∷ A_number ∷ [] }
+        ensures call { IfOk result (λ real. real.call ≡ call) }
+        ensures operands { IfOk result (λ real. map operand_seen real.operands.items ≡ Number number ∷ Number value ∷ []) }
     {
         let mut operands = Vec::new(alloc);
         operands.push(Operand::Number(number))?;
@@ -58,7 +64,10 @@ impl RealCall {
         number: u32,
         sent: u32,
         byte: u32,
-    ) -> Result<RealCall, AllocError> {
+    ) -> Result<RealCall, AllocError>
+        ensures call { IfOk result (λ real. real.call ≡ Call.Sendfd) }
+        ensures operands { IfOk result (λ real. map operand_seen real.operands.items ≡ Number number ∷ Number sent ∷ Number byte ∷ []) }
+    {
         let mut operands = Vec::new(alloc);
         operands.push(Operand::Number(number))?;
         operands.push(Operand::Number(sent))?;
@@ -72,6 +81,8 @@ impl RealCall {
     /// A call that is given a path.
     pub(crate) fn at(alloc: Global, call: Call, path: &[u8]) -> Result<RealCall, AllocError>
         requires { operand_kinds (call_of call) ≡ A_path ∷ [] }
+        ensures call { IfOk result (λ real. real.call ≡ call) }
+        ensures operands { IfOk result (λ real. map operand_seen real.operands.items ≡ Path path.now ∷ []) }
     {
         let mut operands = Vec::new(alloc);
         operands.push(Operand::Path(Vec::from_slice(alloc, path)?))?;
@@ -86,6 +97,8 @@ impl RealCall {
         path: &[u8],
     ) -> Result<RealCall, AllocError>
         requires { operand_kinds (call_of call) ≡ A_number ∷ A_path ∷ [] }
+        ensures call { IfOk result (λ real. real.call ≡ call) }
+        ensures operands { IfOk result (λ real. map operand_seen real.operands.items ≡ Number number ∷ Path path.now ∷ []) }
     {
         let mut operands = Vec::new(alloc);
         operands.push(Operand::Number(number))?;
@@ -94,11 +107,10 @@ impl RealCall {
     }
 
     /// An open of a path.
-    pub(crate) fn open(
-        alloc: Global,
-        path: &[u8],
-        flags: OpenFlags,
-    ) -> Result<RealCall, AllocError> {
+    pub(crate) fn open(alloc: Global, path: &[u8], flags: OpenFlags) -> Result<RealCall, AllocError>
+        ensures call { IfOk result (λ real. real.call ≡ Call.Open) }
+        ensures operands { IfOk result (λ real. map operand_seen real.operands.items ≡ Path path.now ∷ Flags flags ∷ []) }
+    {
         let mut operands = Vec::new(alloc);
         operands.push(Operand::Path(Vec::from_slice(alloc, path)?))?;
         operands.push(Operand::Flags(flags))?;
@@ -114,7 +126,10 @@ impl RealCall {
         number: u32,
         path: &[u8],
         flags: OpenFlags,
-    ) -> Result<RealCall, AllocError> {
+    ) -> Result<RealCall, AllocError>
+        ensures call { IfOk result (λ real. real.call ≡ Call.Openat) }
+        ensures operands { IfOk result (λ real. map operand_seen real.operands.items ≡ Number number ∷ Path path.now ∷ Flags flags ∷ []) }
+    {
         let mut operands = Vec::new(alloc);
         operands.push(Operand::Number(number))?;
         operands.push(Operand::Path(Vec::from_slice(alloc, path)?))?;
@@ -130,7 +145,10 @@ impl RealCall {
         alloc: Global,
         path: &[u8],
         directory: bool,
-    ) -> Result<RealCall, AllocError> {
+    ) -> Result<RealCall, AllocError>
+        ensures call { IfOk result (λ real. real.call ≡ Call.Unlink) }
+        ensures operands { IfOk result (λ real. map operand_seen real.operands.items ≡ Path path.now ∷ Directory directory ∷ []) }
+    {
         let mut operands = Vec::new(alloc);
         operands.push(Operand::Path(Vec::from_slice(alloc, path)?))?;
         operands.push(Operand::Directory(directory))?;
@@ -146,7 +164,10 @@ impl RealCall {
         number: u32,
         path: &[u8],
         directory: bool,
-    ) -> Result<RealCall, AllocError> {
+    ) -> Result<RealCall, AllocError>
+        ensures call { IfOk result (λ real. real.call ≡ Call.Unlinkat) }
+        ensures operands { IfOk result (λ real. map operand_seen real.operands.items ≡ Number number ∷ Path path.now ∷ Directory directory ∷ []) }
+    {
         let mut operands = Vec::new(alloc);
         operands.push(Operand::Number(number))?;
         operands.push(Operand::Path(Vec::from_slice(alloc, path)?))?;
@@ -164,7 +185,10 @@ impl RealCall {
         path: &[u8],
         target: u32,
         target_path: &[u8],
-    ) -> Result<RealCall, AllocError> {
+    ) -> Result<RealCall, AllocError>
+        ensures call { IfOk result (λ real. real.call ≡ Call.Renameat) }
+        ensures operands { IfOk result (λ real. map operand_seen real.operands.items ≡ Number number ∷ Path path.now ∷ Number target ∷ Path target_path.now ∷ []) }
+    {
         let mut operands = Vec::new(alloc);
         operands.push(Operand::Number(number))?;
         operands.push(Operand::Path(Vec::from_slice(alloc, path)?))?;
