@@ -60,6 +60,11 @@ pub(crate) struct Bindings {
 }
 
 impl Bindings {
+    ghost use Rattle.std.specs.Prelude.{◌≡◌, ◌++◌, [], ◌∷◌, OnOk, map, true};
+    ghost use Rattle.rights.specs.Views.{side_seen};
+    ghost use Rattle.records.specs.Calls.{Is_end, Is_place, is_binding};
+    ghost use Rattle.records.specs.EntryViews.{binding_seen};
+
     /// Those of no descriptor.
     pub(crate) fn new(alloc: Global) -> Bindings {
         Bindings {
@@ -70,6 +75,7 @@ impl Bindings {
     /// Adds what a descriptor is.
     fn add(&mut self, binding: Binding) -> Result<(), AllocError>
         requires { is_binding (binding_seen binding) ≡ true }
+        ensures { OnOk result (map binding_seen self.new.items.items ≡ map binding_seen self.old.items.items ++ binding_seen binding ∷ []) }
     {
         self.items.push(binding)?;
         Ok(())
@@ -81,7 +87,9 @@ impl Bindings {
         alloc: Global,
         descriptor: u32,
         place: &[u8],
-    ) -> Result<(), AllocError> {
+    ) -> Result<(), AllocError>
+        ensures { OnOk result (map binding_seen self.new.items.items ≡ map binding_seen self.old.items.items ++ Is_place descriptor place.now ∷ []) }
+    {
         let place = Vec::from_slice(alloc, place)?;
         self.add(Binding::Place { descriptor, place })
     }
@@ -92,7 +100,9 @@ impl Bindings {
         descriptor: u32,
         pair: u32,
         side: Side,
-    ) -> Result<(), AllocError> {
+    ) -> Result<(), AllocError>
+        ensures { OnOk result (map binding_seen self.new.items.items ≡ map binding_seen self.old.items.items ++ Is_end descriptor pair (side_seen side) ∷ []) }
+    {
         self.add(Binding::End {
             descriptor,
             pair,
@@ -117,6 +127,11 @@ pub(crate) struct Log {
 }
 
 impl Log {
+    ghost use Rattle.std.specs.Prelude.{◌≡◌, ◌++◌, [], ◌∷◌, OnOk, true};
+    ghost use Rattle.records.specs.Calls.{Ended, are_calls};
+    ghost use Rattle.records.specs.EntryViews.{calls_seen};
+    ghost use Rattle.records.specs.LogViews.{call_at, entry_at, left_out_at};
+
     /// No entry.
     pub(crate) fn new(alloc: Global) -> Log {
         Log {
@@ -130,7 +145,9 @@ impl Log {
         when: When,
         real: RealCall,
         came: Came,
-    ) -> Result<(), AllocError> {
+    ) -> Result<(), AllocError>
+        ensures { OnOk result (calls_seen self.new.entries.items ≡ calls_seen self.old.entries.items ++ call_at when real came ∷ []) }
+    {
         self.entries.push(Entry {
             span: Span {
                 first: when.first,
@@ -149,7 +166,9 @@ impl Log {
     }
 
     /// Adds the end of a process.
-    pub(crate) fn add_end(&mut self, when: When) -> Result<(), AllocError> {
+    pub(crate) fn add_end(&mut self, when: When) -> Result<(), AllocError>
+        ensures { OnOk result (calls_seen self.new.entries.items ≡ calls_seen self.old.entries.items ++ entry_at when Ended ∷ []) }
+    {
         self.entries.push(Entry {
             span: Span {
                 first: when.first,
@@ -168,7 +187,9 @@ impl Log {
         when: When,
         reason: Reason,
         name: CallName<'_>,
-    ) -> Result<(), AllocError> {
+    ) -> Result<(), AllocError>
+        ensures { OnOk result (calls_seen self.new.entries.items ≡ calls_seen self.old.entries.items ++ left_out_at when reason name.entry.bytes.now ∷ []) }
+    {
         self.entries.push(Entry {
             span: Span {
                 first: when.first,
