@@ -13,3 +13,4 @@ pub mod Samples
 pub mod Rows
 pub mod PartLaws
 pub mod Limits
+pub mod Within

@@ -13,3 +13,5 @@ pub mod QuotedViews
 pub mod BindingViews
 pub mod FaultViews
 pub mod CallsViews
+pub mod Accounts
+pub mod LogViews

@@ -1,20 +1,41 @@
-//! Recorded calls: what is kept of a recorded run of a program, and its text, one spelling for each. And the lines that strace writes.
+//! Recorded calls: what is kept of a recorded run of a program, and its text, one spelling for each. And what the lines that strace writes tell,
+//! and what calls they are.
 #![tactic(auto)]
 
+mod accounts;
 pub mod argument_parts;
+mod argument_values;
 mod bindings;
+mod descriptor_calls;
 pub mod entries;
 pub mod faults;
+mod forms;
+mod held;
 mod line_texts;
+mod logs;
+mod name_calls;
 mod names;
+mod opening;
 pub mod operands;
+mod other_rights;
+mod pairing;
+mod process_calls;
+mod processes;
 mod quoting;
+mod reader;
 pub mod reading;
+mod real_calls;
+pub mod recorded;
+mod runs;
+mod seen_calls;
 mod sets;
 pub mod strace;
 mod strace_headers;
 pub mod strace_results;
 mod strace_texts;
+mod streaming;
+mod strings;
+mod taken_calls;
 mod taking;
 mod words;
 pub mod writing;
@@ -24,6 +45,7 @@ pub use entries::{Binding, Entry, Event, LeftOut, MadeCall, Outcome, Reason, Spa
 pub use faults::CallsFault;
 pub use operands::{Kind, Operand, operand_kinds};
 pub use reading::read_calls;
+pub use recorded::{Recorded, recorded_calls};
 pub use strace::{StraceLine, Told, read_strace};
 pub use strace_results::{Answer, CallResult};
 pub use writing::write_calls;

@@ -89,7 +89,18 @@ fn resumed_of(text: &[u8]) -> Option<Told<'_>> {
     })
 }
 
-/// A call that begins on the line.
+/// What stands before a remark of strace's own that a process was attached, where the remark ends the text.
+fn before_attached(text: &[u8]) -> Option<&[u8]> {
+    let rest = before(text, b" attached")?;
+    for at in 0..rest.len() {
+        if after(&rest[at..], b"strace: Process ").is_some() {
+            return Some(&rest[..at]);
+        }
+    }
+    None
+}
+
+/// A call that begins on the line. A remark that a process was attached may come into it: it goes on behind the remark.
 fn call_of(text: &[u8]) -> Option<Told<'_>> {
     let (name, rest) = first_part(text, b'(');
     let rest = rest?;
@@ -97,6 +108,9 @@ fn call_of(text: &[u8]) -> Option<Told<'_>> {
         return None;
     }
     if let Some(arguments) = before(rest, b" <unfinished ...>") {
+        return Some(Told::Unfinished { name, arguments });
+    }
+    if let Some(arguments) = before_attached(rest) {
         return Some(Told::Unfinished { name, arguments });
     }
     let at = close_of(rest)?;
@@ -124,6 +138,9 @@ fn understood(text: &[u8]) -> Option<Told<'_>> {
     }
     if let Some(rest) = after(text, b"strace: ") {
         return Some(Told::Remark(rest));
+    }
+    if text == b"<unfinished ...>".as_slice() {
+        return Some(Told::Remark(text));
     }
     call_of(text)
 }

@@ -41,7 +41,7 @@ fn word_end(text: &[u8]) -> usize
 }
 
 /// Where a note ends that the text begins with, behind its last bracket.
-fn note_end(text: &[u8]) -> usize
+pub(crate) fn note_end(text: &[u8]) -> usize
     ensures { result ≤ length text.now }
 {
     let mut depth: usize = 0;

@@ -1,0 +1,147 @@
+//! Which lines of a record its entries account for.
+
+ghost use Rattle.std.specs.Prelude.{◌≡◌, ◌+◌, ◌<◌, ◌^◌, ◌&&◌, ◌||◌, ◌==◌, ℕ, IfOk, OnOk, false, length, nat_lt, slice_index_or, vec_len};
+ghost use Rattle.std.proofs.Math.Bool.{not};
+ghost use Rattle.records.specs.Accounts.{is_end_of, is_in_lists, is_line_of, ListTheOthers};
+ghost use Rattle.records.specs.EntryViews.{calls_seen};
+
+use crate::entries::Entry;
+use crate::strace::{StraceLine, Told};
+use std::alloc::{AllocError, Global};
+
+/// The lines in which no call begins or ends, by their numbers.
+#[derive(Drop)]
+pub(crate) struct Accounts {
+    /// Those that aren't understood.
+    pub misread: Vec<u32>,
+    /// Those that say nothing of a call.
+    pub silent: Vec<u32>,
+}
+
+/// Whether a line says nothing of a call by its kind.
+fn is_silent(told: Told<'_>) -> bool {
+    match told {
+        Told::Nothing
+        | Told::Signal(_)
+        | Told::Exited(_)
+        | Told::Killed(_)
+        | Told::Superseded(_)
+        | Told::Remark(_)
+        | Told::Frame(_) => true,
+        Told::Finished { .. } | Told::Unfinished { .. } | Told::Resumed { .. } | Told::Other => {
+            false
+        }
+    }
+}
+
+/// The number of the line at an index, or the greatest one.
+pub(crate) fn line_number(index: usize) -> u32
+    ensures { index + 1 < 2 ^ 32 → result ≡ index + 1 }
+{
+    match u32::try_from(index) {
+        Ok(index) => index.saturating_add(1),
+        Err(_) => u32::MAX,
+    }
+}
+
+/// Marks a line, by its number, if there is a mark for it.
+fn mark(marks: &mut [bool], line: u32)
+    ensures { (k : ℕ) → slice_index_or marks.new k false ≡ (slice_index_or marks.old k false || ((line == k) && nat_lt k (length marks.old))) }
+{
+    let at = line as usize;
+    if at < marks.len() {
+        marks[at] = true;
+    }
+}
+
+/// Marks for so many lines and 0, none of them set.
+fn unmarked(alloc: Global, count: usize) -> Result<Vec<bool>, AllocError>
+    ensures long { IfOk result (λ marks. vec_len marks ≡ count + 1) }
+    ensures unset { IfOk result (λ marks. (k : ℕ) → slice_index_or marks.items k false ≡ false) }
+{
+    let mut marks = Vec::new(alloc);
+    marks.push(false)?;
+    for _ in 0..count {
+        marks.push(false)?;
+    }
+    Ok(marks)
+}
+
+/// Marks the lines in which calls begin or end, by their numbers.
+fn mark_ends(marks: &mut [bool], entries: &[Entry])
+    ensures { (k : ℕ) → slice_index_or marks.new k false ≡ (slice_index_or marks.old k false || (is_end_of k (calls_seen entries.now) && nat_lt k (length marks.old))) }
+{
+    for entry in entries {
+        mark(marks, entry.span.first);
+        mark(marks, entry.span.last);
+    }
+}
+
+/// Marks for so many lines and 0, of which those are set in which calls begin or end.
+fn marked(alloc: Global, count: usize, entries: &[Entry]) -> Result<Vec<bool>, AllocError>
+    ensures { IfOk result (λ marks. (k : ℕ) → slice_index_or marks.items k false ≡ (is_end_of k (calls_seen entries.now) && nat_lt k (count + 1))) }
+{
+    let mut marks = unmarked(alloc, count)?;
+    mark_ends(&mut marks, entries);
+    Ok(marks)
+}
+
+impl Accounts {
+    /// Takes a line of this number.
+    fn take(&mut self, number: u32, is_silent: bool, is_marked: bool) -> Result<(), AllocError>
+        ensures { OnOk result ((line : ℕ) → is_in_lists line self.new.misread.items self.new.silent.items
+            ≡ (is_in_lists line self.old.misread.items self.old.silent.items || (not is_marked && (number == line)))) }
+    {
+        if is_marked {
+            return Ok(());
+        }
+        if is_silent {
+            self.silent.push(number)?;
+        } else {
+            self.misread.push(number)?;
+        }
+        Ok(())
+    }
+}
+
+/// Whether a line is marked.
+fn is_marked(marks: &[bool], line: u32) -> bool
+    ensures { result ≡ slice_index_or marks.now line false }
+{
+    match marks.get(line as usize) {
+        Some(mark) => *mark,
+        None => false,
+    }
+}
+
+/// The lines that aren't marked.
+fn accounts_of(
+    alloc: Global,
+    lines: &[StraceLine<'_>],
+    marks: &[bool],
+) -> Result<Accounts, AllocError>
+    ensures { length lines.now < 2 ^ 32 → IfOk result (λ accounts. (line : ℕ) → is_in_lists line accounts.misread.items accounts.silent.items
+        ≡ (is_line_of (length lines.now) line && not (slice_index_or marks.now line false))) }
+{
+    let mut accounts = Accounts {
+        misread: Vec::new(alloc),
+        silent: Vec::new(alloc),
+    };
+    for (index, line) in lines.iter().enumerate() {
+        let number = line_number(index);
+        accounts.take(number, is_silent(line.told), is_marked(marks, number))?;
+    }
+    Ok(accounts)
+}
+
+/// The lines in which no call of these entries begins or ends.
+pub(crate) fn account(
+    alloc: Global,
+    lines: &[StraceLine<'_>],
+    entries: &[Entry],
+) -> Result<Accounts, AllocError>
+    ensures { IfOk result (λ accounts. ListTheOthers (length lines.now) (calls_seen entries.now) accounts.misread.items accounts.silent.items) }
+{
+    let marks = marked(alloc, lines.len(), entries)?;
+    accounts_of(alloc, lines, &marks)
+}

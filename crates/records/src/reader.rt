@@ -1,0 +1,306 @@
+//! How the lines of a record are gone through, one after another.
+
+ghost use Rattle.std.specs.Prelude.{◌≡◌, IfOk, true};
+ghost use Rattle.records.specs.Calls.{are_calls};
+ghost use Rattle.records.specs.EntryViews.{calls_seen};
+
+use crate::argument_parts::arguments;
+use crate::entries::{Entry, Reason};
+use crate::forms::{Form, OnProcess, form_of};
+use crate::logs::{CallName, When};
+use crate::process_calls::{begin_child, is_thread};
+use crate::runs::Run;
+use crate::seen_calls::SeenCall;
+use crate::strace::{StraceLine, Told};
+use crate::strace_results::{Answer, CallResult};
+use crate::taken_calls;
+use std::alloc::{AllocError, Global};
+use std::collections::BTreeMap;
+use std::mem;
+
+/// A call that has begun.
+#[derive(Drop)]
+struct Begun {
+    line: u32,
+    name: Vec<u8>,
+    arguments: Vec<u8>,
+}
+
+/// A fork that has begun: its thread and its line.
+#[derive(Clone, Copy)]
+struct BegunFork {
+    thread: u32,
+    line: u32,
+}
+
+/// A record as its lines are gone through.
+#[derive(Drop)]
+pub(crate) struct Reader {
+    run: Run,
+    /// The calls that have begun, by their threads.
+    begun: BTreeMap<u32, Begun>,
+    /// The forks that have begun and of which no child is known yet, or which have ended.
+    forks: Vec<BegunFork>,
+    /// The thread of lines that tell none: 0 as long as it isn't known.
+    unnamed: u32,
+}
+
+/// What a call came to of which nothing is told.
+const UNTOLD: CallResult<'static> = CallResult {
+    answer: Answer::Unknown,
+    note: None,
+    error: None,
+};
+
+impl Reader {
+    /// Before the first line.
+    pub(crate) fn new(alloc: Global) -> Reader {
+        Reader {
+            run: Run::new(alloc),
+            begun: BTreeMap::new(alloc),
+            forks: Vec::new(alloc),
+            unnamed: 0,
+        }
+    }
+
+    /// The process of a fork, and whether it makes a thread: nothing where the fork has ended.
+    fn forking(&self, fork: BegunFork) -> Option<(usize, bool)> {
+        let begun = self.begun.get(&fork.thread)?;
+        if begun.line != fork.line {
+            return None;
+        }
+        let process = self.run.processes.find(fork.thread)?;
+        Some((process, is_thread(&begun.arguments)))
+    }
+
+    /// The same of the fork that began last, of those that haven't ended and of which no child is known.
+    fn last_fork(&mut self) -> Option<(usize, bool)> {
+        for _ in 0..self.forks.len() {
+            let fork = self.forks.last().copied()?;
+            if let Some(forking) = self.forking(fork) {
+                return Some(forking);
+            }
+            self.forks.pop();
+        }
+        None
+    }
+
+    /// The process of a thread: of one that isn't known, the child of the fork that began last.
+    fn process_of(&mut self, thread: u32) -> Result<usize, AllocError> {
+        if let Some(process) = self.known_process(thread) {
+            return Ok(process);
+        }
+        if let Some((parent, is_thread)) = self.last_fork() {
+            self.forks.pop();
+            begin_child(&mut self.run, parent, thread, is_thread)?;
+        }
+        if let Some(process) = self.run.processes.find(thread) {
+            return Ok(process);
+        }
+        match self.run.processes.find(0) {
+            Some(process) if self.unnamed == 0 => self.take_for_unnamed(process, thread),
+            _ => self.run.processes.begin(thread),
+        }
+    }
+
+    /// Takes a thread for the one of the lines before, which told none: it goes on with the call that began there.
+    fn take_for_unnamed(&mut self, process: usize, thread: u32) -> Result<usize, AllocError> {
+        self.run.processes.take_for_leader(process, thread)?;
+        self.unnamed = thread;
+        if let Some(begun) = self.begun.remove(&0) {
+            self.begun.insert(thread, begun)?;
+        }
+        Ok(process)
+    }
+
+    /// The process of a thread, if it is known: not of one that is the first of a process which has ended, while a fork may make another of its number.
+    fn known_process(&mut self, thread: u32) -> Option<usize> {
+        let process = self.run.processes.find(thread)?;
+        let may_be_new = self.run.processes.is_leader(process, thread)
+            && self.last_fork().is_some();
+        if may_be_new {
+            return self.run.processes.find_going_on(thread);
+        }
+        Some(process)
+    }
+
+    /// Takes a call of a thread that began at a line and ends at another.
+    fn take_call(
+        &mut self,
+        first: u32,
+        last: u32,
+        thread: u32,
+        name: CallName<'_>,
+        text: &[u8],
+        returned: CallResult<'_>,
+    ) -> Result<(), AllocError> {
+        let process = self.process_of(thread)?;
+        let number = self.run.processes.number(process);
+        let seen = SeenCall {
+            when: When::new(first, last, number),
+            process,
+            thread,
+            name,
+            arguments: arguments(self.run.alloc, text)?,
+            returned,
+        };
+        taken_calls::take(&mut self.run, &seen)
+    }
+
+    /// Takes the beginning of a call.
+    fn begin(
+        &mut self,
+        line: u32,
+        thread: u32,
+        name: &[u8],
+        arguments: &[u8],
+    ) -> Result<(), AllocError> {
+        self.process_of(thread)?;
+        let alloc = self.run.alloc;
+        if is_fork(name) {
+            self.forks.push(BegunFork { thread, line })?;
+        }
+        let begun = Begun {
+            line,
+            name: Vec::from_slice(alloc, name)?,
+            arguments: Vec::from_slice(alloc, arguments)?,
+        };
+        if let Some(earlier) = self.begun.insert(thread, begun)? {
+            self.give_up(thread, earlier)?;
+        }
+        Ok(())
+    }
+
+    /// Takes the end of a call.
+    fn resume(
+        &mut self,
+        line: u32,
+        thread: u32,
+        name: &[u8],
+        rest: &[u8],
+        returned: CallResult<'_>,
+    ) -> Result<(), AllocError> {
+        self.process_of(thread)?;
+        let Some(mut begun) = self.begun.remove(&thread) else {
+            return Ok(());
+        };
+        if begun.name.as_slice() != name {
+            self.begun.insert(thread, begun)?;
+            return Ok(());
+        }
+        begun.arguments.extend_from_slice(rest)?;
+        match CallName::new(name) {
+            Some(name) => self.take_call(
+                begun.line,
+                line,
+                thread,
+                name,
+                &begun.arguments,
+                returned,
+            ),
+            None => Ok(()),
+        }
+    }
+
+    /// Takes a call that never came back: it is left out, but for the end of a process.
+    fn give_up(&mut self, thread: u32, begun: Begun) -> Result<(), AllocError> {
+        let Some(name) = CallName::new(&begun.name) else {
+            return Ok(());
+        };
+        if is_end(&begun.name) {
+            return self.take_call(
+                begun.line,
+                begun.line,
+                thread,
+                name,
+                &begun.arguments,
+                UNTOLD,
+            );
+        }
+        let process = self.process_of(thread)?;
+        let number = self.run.processes.number(process);
+        let when = When::new(begun.line, begun.line, number);
+        self.run
+            .log
+            .add_left_out(self.run.alloc, when, Reason::Unknown, name)
+    }
+
+    /// Takes the end of a thread: of its process, where it is the first one and goes on.
+    fn end(&mut self, line: u32, thread: u32) -> Result<(), AllocError> {
+        if let Some(begun) = self.begun.remove(&thread) {
+            self.give_up(thread, begun)?;
+        }
+        let Some(process) = self.run.processes.find(thread) else {
+            return Ok(());
+        };
+        if self.run.processes.is_leader(process, thread) && self.run.processes.end(process) {
+            let number = self.run.processes.number(process);
+            self.run.log.add_end(When::new(line, line, number))?;
+        }
+        Ok(())
+    }
+
+    /// Takes that a thread goes on with the call that another one began.
+    fn supersede(&mut self, thread: u32, other: u32) -> Result<(), AllocError> {
+        if let Some(begun) = self.begun.remove(&other)
+            && let Some(earlier) = self.begun.insert(thread, begun)?
+        {
+            self.give_up(thread, earlier)?;
+        }
+        Ok(())
+    }
+
+    /// Takes a line. One that fits no call that has begun, or isn't understood, gives nothing.
+    pub(crate) fn take(&mut self, number: u32, line: &StraceLine<'_>) -> Result<(), AllocError> {
+        let thread = line.process.unwrap_or(self.unnamed);
+        match line.told {
+            Told::Finished {
+                name,
+                arguments,
+                returned,
+            } => match CallName::new(name) {
+                Some(name) => self.take_call(number, number, thread, name, arguments, returned),
+                None => Ok(()),
+            },
+            Told::Unfinished { name, arguments } => self.begin(number, thread, name, arguments),
+            Told::Resumed {
+                name,
+                arguments,
+                returned,
+            } => self.resume(number, thread, name, arguments, returned),
+            Told::Exited(_) | Told::Killed(_) => self.end(number, thread),
+            Told::Superseded(other) => self.supersede(thread, other),
+            _ => Ok(()),
+        }
+    }
+
+    /// Gives up the calls that haven't ended, behind the last line.
+    fn give_up_all(&mut self) -> Result<(), AllocError> {
+        let left = mem::replace(&mut self.begun, BTreeMap::new(self.run.alloc));
+        for (thread, begun) in left {
+            self.give_up(thread, begun)?;
+        }
+        Ok(())
+    }
+
+    /// The entries, behind the last line.
+    pub(crate) fn finish(mut self) -> Result<Vec<Entry>, AllocError>
+        ensures { IfOk result (λ entries. are_calls (calls_seen entries.items) ≡ true) }
+    {
+        self.give_up_all()?;
+        Ok(self.run.into_entries())
+    }
+}
+
+/// Whether a call makes processes.
+fn is_fork(name: &[u8]) -> bool {
+    matches!(form_of(name), Some(Form::Process(OnProcess::Fork)))
+}
+
+/// Whether a call ends a process.
+fn is_end(name: &[u8]) -> bool {
+    matches!(
+        form_of(name),
+        Some(Form::Process(OnProcess::End | OnProcess::EndThread))
+    )
+}
