@@ -6,3 +6,4 @@ pub mod Shows
 pub mod Moves
 pub mod Samples
 pub mod Views
+pub mod FollowedViews

@@ -42,9 +42,9 @@ pub(crate) struct Before<'t> {
 
 /// A step's line, and what is seen of the step.
 #[derive(Drop)]
-struct Watched<'t> {
-    line: Line,
-    seen: Option<Seen<'t>>,
+pub(crate) struct Watched<'t> {
+    pub line: Line,
+    pub seen: Option<Seen<'t>>,
 }
 
 /// The call of an instruction, if it is one.
@@ -116,7 +116,7 @@ fn seen_by<'t>(before: Option<Before<'t>>, acted: Option<&Acted>, second: u32) -
 }
 
 /// One step of the task's machine, with what is seen of it.
-fn watched_step<'t, T: Tree>(
+pub(crate) fn watched_step<'t, T: Tree>(
     task: &'t Task,
     machine: &mut Machine<'_, T>,
     event: Event,

@@ -121,7 +121,7 @@ fn may_come(entry: &Entry, others: &[&Entry]) -> bool
 }
 
 /// The entry of this place among those that are left, if it may come next.
-fn next_entry<'c>(left: &[&'c Entry], at: usize) -> Option<&'c Entry>
+pub(crate) fn next_entry<'c>(left: &[&'c Entry], at: usize) -> Option<&'c Entry>
     ensures entry { option_map (λ entry. record_entry_seen entry.now) result ≡ next_entry (entries_behind left.now) at }
     ensures there { IfSome result (λ entry. at < length left.now) }
 {
@@ -134,7 +134,7 @@ fn next_entry<'c>(left: &[&'c Entry], at: usize) -> Option<&'c Entry>
 }
 
 /// Whether it is the same call.
-fn same_call(call: Call, other: Call) -> bool
+pub(crate) fn same_call(call: Call, other: Call) -> bool
     ensures { result ≡ bytes_eq (call_name (call_of call)) (call_name (call_of other)) }
 {
     call.name().as_bytes() == other.name().as_bytes()
@@ -240,6 +240,17 @@ impl<'c> Standing<'c> {
             namings,
             history: Vec::new(alloc),
         }))
+    }
+
+    /// The same once more.
+    pub(crate) fn copy(&self, alloc: Global) -> Result<Standing<'c>, Memory>
+        ensures { IfOk result (λ copy. standing_of copy ≡ standing_of self.now) }
+    {
+        Ok(Standing {
+            left: Vec::from_slice(alloc, &self.left)?,
+            namings: Vec::from_slice(alloc, &self.namings)?,
+            history: Vec::from_slice(alloc, &self.history)?,
+        })
     }
 
     /// Whether all is shown.
