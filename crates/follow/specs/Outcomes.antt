@@ -85,23 +85,23 @@ namings_of namings p made (Succeeds n) (Value m) second = namings_by namings p m
 namings_of namings p made _ _ second = []
 
 -- ## Repeats
--- a read through a descriptor, and whether it was at an end, or a write through one
+-- a read or a write through a descriptor
 pub data Transfer : Type 0 where
-  Reads : (descriptor : DescriptorNumber) (ended : Bool) → Transfer
+  Reads : (descriptor : DescriptorNumber) → Transfer
   Writes : (descriptor : DescriptorNumber) → Transfer
 
-abbrev pub transfer_by : List ℕ → Syscall → ℕ → Option Transfer
-transfer_by registers (Read x) m = Some (Reads (operand_value registers x) (m == 256))
-transfer_by registers (Write x v) m = Some (Writes (operand_value registers x))
-transfer_by registers _ m = None
+abbrev pub transfer_by : List ℕ → Syscall → Option Transfer
+transfer_by registers (Read x) = Some (Reads (operand_value registers x))
+transfer_by registers (Write x v) = Some (Writes (operand_value registers x))
+transfer_by registers _ = None
 
 -- what was transferred in a step, if it succeeded
 abbrev pub transfer_in : List ℕ → Option Syscall → LineResult → Option Transfer
-transfer_in registers (Some call) (Value m) = transfer_by registers call m
+transfer_in registers (Some call) (Value m) = transfer_by registers call
 transfer_in registers _ _ = None
 
 abbrev pub same_transfer : Transfer → Transfer → Bool
-same_transfer (Reads n ended) (Reads m other) = (n == m) && beq ended other
+same_transfer (Reads n) (Reads m) = n == m
 same_transfer (Writes n) (Writes m) = n == m
 same_transfer _ _ = false
 

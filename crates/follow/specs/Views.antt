@@ -68,7 +68,7 @@ seen_of s = record {
 }
 
 abbrev pub transfer_of : TransferCode → Transfer
-transfer_of (transfer.Read descriptor ended) = Reads descriptor ended
+transfer_of (transfer.Read descriptor) = Reads descriptor
 transfer_of (transfer.Write descriptor) = Writes descriptor
 
 abbrev pub past_of : PastCode → Past

@@ -6,7 +6,7 @@ use crate::numbers::{ProcessPair, model_of};
 use crate::outcomes::is_of_mode;
 use crate::standing::{next_entry, same_call};
 use crate::worlds::{Awaited, add_by_world, has_world};
-use instruction_set::{Instruction, Register, Syscall};
+use instruction_set::{Instruction, Operand, Register, Syscall};
 use records::{Entry, Event as Recorded, MadeCall, Outcome};
 use rights::{Call, Errno, Memory};
 use std::alloc::Global;
@@ -161,42 +161,110 @@ fn add_byte(bytes: &mut Vec<u8>, value: u32) -> Result<(), Memory> {
     Ok(())
 }
 
-/// The bytes that are tried where one is read into a register at a point: those with which the comparisons of the register are, and their
-/// neighbours; of all comparisons of the program, if none stands right behind it.
+/// The value with which an instruction compares this register, or any where none is told.
+fn compared(instruction: &Instruction, register: Option<Register>) -> Option<u32> {
+    match instruction {
+        Instruction::Jeq {
+            register: own,
+            value,
+            ..
+        }
+        | Instruction::Jlt {
+            register: own,
+            value,
+            ..
+        } => {
+            if register.is_none() || register == Some(*own) {
+                return Some(*value);
+            }
+            None
+        }
+        _ => None,
+    }
+}
+
+/// Adds the bytes with which the comparisons of a register are that stand right behind a point.
+fn add_behind(
+    bytes: &mut Vec<u8>,
+    code: &[Instruction],
+    point: u8,
+    register: Register,
+) -> Result<(), Memory> {
+    let Some(behind) = code.get(usize::from(point) + 1..) else {
+        return Ok(());
+    };
+    for instruction in behind {
+        let Some(value) = compared(instruction, Some(register)) else {
+            break;
+        };
+        add_byte(bytes, value)?;
+        add_byte(bytes, value.wrapping_sub(1))?;
+    }
+    Ok(())
+}
+
+/// Adds the bytes with which all comparisons of a program are.
+fn add_all(bytes: &mut Vec<u8>, code: &[Instruction]) -> Result<(), Memory> {
+    for instruction in code {
+        if let Some(value) = compared(instruction, None) {
+            add_byte(bytes, value)?;
+        }
+    }
+    Ok(())
+}
+
+/// Whether an instruction hands on what a register holds.
+fn hands_on(instruction: &Instruction, register: Register) -> bool {
+    match instruction {
+        Instruction::Mov { source, .. } => *source == register,
+        Instruction::Add { addend, .. } => *addend == register,
+        Instruction::Invoke { call, .. } => match call {
+            Syscall::Write { value, .. } | Syscall::Sendfd { value, .. } => {
+                *value == Operand::Register(register)
+            }
+            _ => false,
+        },
+        _ => false,
+    }
+}
+
+/// Whether some instruction of a program does.
+fn is_handed_on(code: &[Instruction], register: Register) -> bool {
+    for instruction in code {
+        if hands_on(instruction, register) {
+            return true;
+        }
+    }
+    false
+}
+
+/// Adds a byte that isn't there.
+fn add_other(bytes: &mut Vec<u8>) -> Result<(), Memory> {
+    for byte in 0..=255 {
+        if !bytes.contains(&byte) {
+            bytes.push(byte)?;
+            break;
+        }
+    }
+    Ok(())
+}
+
+/// The bytes that are tried where one is read into a register at a point: those with which the comparisons right behind it are, and
+/// another one; where the register is handed on, those of all comparisons of the task, too.
 pub(crate) fn bytes_at(
-    alloc: Global,
+    search: &Search<'_>,
     code: &[Instruction],
     point: u8,
     register: Register,
 ) -> Result<Vec<u8>, Memory> {
-    let mut bytes = Vec::new(alloc);
-    let mut is_behind = true;
-    for instruction in code.iter().skip(usize::from(point) + 1) {
-        match instruction {
-            Instruction::Jeq {
-                register: compared,
-                value,
-                ..
-            }
-            | Instruction::Jlt {
-                register: compared,
-                value,
-                ..
-            } if *compared == register => {
-                add_byte(&mut bytes, *value)?;
-                add_byte(&mut bytes, value.wrapping_add(1))?;
-                add_byte(&mut bytes, value.wrapping_sub(1))?;
-            }
-            Instruction::Jmp { .. } | Instruction::Halt | Instruction::Invoke { .. } => {
-                is_behind = is_behind && bytes.is_empty();
-                if !is_behind {
-                    break;
-                }
-            }
-            _ => {}
+    let mut bytes = Vec::new(search.alloc);
+    add_behind(&mut bytes, code, point, register)?;
+    if is_handed_on(code, register) {
+        for named in search.task.programs() {
+            add_all(&mut bytes, named.program.code())?;
         }
     }
-    add_byte(&mut bytes, 0)?;
+    add_other(&mut bytes)?;
     Ok(bytes)
 }
 
@@ -214,7 +282,7 @@ fn add_inputs<'a>(
     let Some(named) = search.task.programs().get(state.program as usize) else {
         return Ok(());
     };
-    let bytes = bytes_at(search.alloc, named.program.code(), state.point, register)?;
+    let bytes = bytes_at(search, named.program.code(), state.point, register)?;
     for input in &bytes {
         let mut branch = lead.branch(search.alloc)?;
         let event = Event {

@@ -32,7 +32,7 @@ const MOST_POINTS: usize = 16;
 const MOST_LOOKUPS: usize = 32_768;
 
 /// What a process of the task would do where a search has come furthest.
-#[derive(Clone, Copy)]
+#[derive(Clone, Copy, PartialEq, Eq)]
 pub struct AtPoint {
     /// The process, its program's place in the task, and its point.
     pub process: u8,
@@ -164,7 +164,9 @@ impl<'a> Trail<'a> {
         }
         if let Some(process) = stand_in(&lead.pairs, entry.process) {
             if let Some(point) = point_of(search, lead, process)? {
-                self.points.push(point)?;
+                if !self.points.contains(&point) {
+                    self.points.push(point)?;
+                }
             }
         }
         Ok(())

@@ -11,11 +11,11 @@ use instruction_set::Syscall;
 use rights::limits::REGISTERS;
 use simulator::LineResult;
 
-/// A read through a descriptor of a task's process, and whether it was at an end, or a write through one.
+/// A read or a write through a descriptor of a task's process.
 #[derive(Clone, Copy)]
 pub(crate) enum Transfer {
-    Read { descriptor: u32, ended: bool },
-    Write { descriptor: u32 },
+    Read(u32),
+    Write(u32),
 }
 
 /// A call of the record that was shown by a process of the task.
@@ -31,33 +31,22 @@ impl Transfer {
         ensures { result ≡ same_transfer (transfer_of self) (transfer_of other) }
     {
         match (self, other) {
-            (
-                Transfer::Read { descriptor, ended },
-                Transfer::Read {
-                    descriptor: other,
-                    ended: other_ended,
-                },
-            ) => descriptor == other && ended == other_ended,
-            (Transfer::Write { descriptor }, Transfer::Write { descriptor: other }) => {
-                descriptor == other
-            }
+            (Transfer::Read(descriptor), Transfer::Read(other))
+            | (Transfer::Write(descriptor), Transfer::Write(other)) => descriptor == other,
             _ => false,
         }
     }
 }
 
-/// What a call transfers that succeeds with this value.
-fn transfer_by(registers: &[u32; REGISTERS], call: &Syscall, value: u32) -> Option<Transfer>
-    ensures { option_map transfer_of result ≡ transfer_by registers.now (syscall_of call.now) value }
+/// What a call transfers that succeeds.
+fn transfer_by(registers: &[u32; REGISTERS], call: &Syscall) -> Option<Transfer>
+    ensures { option_map transfer_of result ≡ transfer_by registers.now (syscall_of call.now) }
 {
     match call {
-        Syscall::Read { descriptor } => Some(Transfer::Read {
-            descriptor: value_of(registers, *descriptor),
-            ended: value == 256,
-        }),
-        Syscall::Write { descriptor, .. } => Some(Transfer::Write {
-            descriptor: value_of(registers, *descriptor),
-        }),
+        Syscall::Read { descriptor } => Some(Transfer::Read(value_of(registers, *descriptor))),
+        Syscall::Write { descriptor, .. } => {
+            Some(Transfer::Write(value_of(registers, *descriptor)))
+        }
         _ => None,
     }
 }
@@ -74,7 +63,7 @@ pub(crate) fn transfer_in(
         return None;
     };
     match outcome {
-        LineResult::Value(value) => transfer_by(registers, call, value),
+        LineResult::Value(_) => transfer_by(registers, call),
         _ => None,
     }
 }

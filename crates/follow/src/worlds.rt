@@ -65,7 +65,7 @@ fn add_moves<'a>(
     let Some(named) = search.task.programs().get(state.program as usize) else {
         return Ok(());
     };
-    let bytes = bytes_at(search.alloc, named.program.code(), state.point, *register)?;
+    let bytes = bytes_at(search, named.program.code(), state.point, *register)?;
     for input in &bytes {
         let event = Event {
             process,
