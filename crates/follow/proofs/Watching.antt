@@ -4,20 +4,21 @@ use Rattle.std.specs.Prelude.{Option, Some, None, nat_eq, length}
 use Rattle.std.specs.List.{slice_get}
 use Rattle.process.specs.State.{ProcessState}
 use Rattle.kernel.specs.World.{World}
+use Rattle.kernel.specs.Answers.{AreEvents}
 use Rattle.kernel.specs.Steps.{Programs, Acted, step}
 use Rattle.kernel.specs.Renamings.{DiffersInNumbers}
 use Rattle.kernel.specs.WellFormed.{ArePrograms, IsWellFormed}
 use Rattle.kernel.proofs.Aimed.{steps_alike}
-use Rattle.kernel.proofs.Determined.{alike_share, differs_twice}
+use Rattle.kernel.proofs.Determined.{alike_share, differs_twice, run_exists}
 use Rattle.kernel.proofs.Keeping.{next_formed}
 use Rattle.task.specs.Begins.{first_world}
 use Rattle.task.specs.Limits.{is_plan}
-use Rattle.task.specs.Plans.{programs_of_plan}
+use Rattle.task.specs.Plans.{Plan, programs_of_plan}
 use Rattle.task.proofs.FirstWorlds.{first_well_formed}
 use Rattle.simulator.specs.Lines.{Line, line_at}
 use Rattle.follow.specs.Moves.{Moves}
 use Rattle.follow.specs.Outcomes.{seen_at}
-use Rattle.follow.specs.Shows.{Judged, Move, Steps, Skips, Setting, Standing, after_skip, after_step}
+use Rattle.follow.specs.Shows.{HasRun, Judged, Move, Steps, Skips, Setting, Standing, after_skip, after_step, events_of}
 
 -- where a run stands, and what is left, come out so from each world that differs from this one in numbers alone
 abbrev Ends : Setting → World → Option Standing → List Move → Bool → Type 0
@@ -70,3 +71,14 @@ leads-stop g first moves w next s m left valid good move leads =
 pub leads-end : (g : Setting) (first : Option Standing) (moves : List Move) (w : World) (s : Standing) → Leads g first moves w s [] →
     Judged g (first_world g.plan) first moves (nat_eq (length s.left) 0)
 leads-end g first moves w s leads = leads (nat_eq (length s.left) 0) (λ v fine differs. refl)
+
+-- the events of what is left, and then of all, are bytes
+pub byte-more : (g : Setting) (w next : World) (s : Standing) (m : Move) (left : List Move) (after : Option Standing) → Moves g w s m next after →
+    AreEvents (events_of left) → AreEvents (events_of (m ∷ left))
+byte-more g w next s (Steps e shows) left after moves bytes = (moves.byte, bytes)
+byte-more g w next s (Skips i) left after moves bytes = bytes
+
+pub has-run : (plan : Plan) (moves : List Move) → is_plan plan ≡ true → AreEvents (events_of moves) → HasRun plan (events_of moves)
+has-run plan moves valid bytes =
+    let formed = first_well_formed plan valid in
+    run_exists (programs_of_plan plan) (first_world plan) (events_of moves) formed.0 formed.1.formed bytes

@@ -9,11 +9,12 @@ use Rattle.process.specs.State.{ProcessState}
 use Rattle.instruction_set.specs.Programs.{Syscall, called}
 use Rattle.kernel.specs.World.{World, Choice, IsFresh}
 use Rattle.kernel.specs.Answers.{Event}
-use Rattle.kernel.specs.Steps.{LineResult, Halted, step}
+use Rattle.kernel.specs.Steps.{LineResult, Halted, Acted, step}
 use Rattle.records.specs.Calls.{RealOperand, Path, MadeCall, RecordedEvent, Called, Ended, Omitted, RecordEntry, RecordedCalls}
 use Rattle.task.specs.Plans.{Plan, programs_of_plan}
 use Rattle.task.specs.Begins.{first_world}
 use Rattle.simulator.specs.Lines.{line_at}
+use Rattle.simulator.specs.Simulations.{IsRun}
 use Rattle.follow.specs.Places.{Placing, is_foreign, placed}
 use Rattle.follow.specs.Numbers.{Naming, ProcessPair, first_namings, is_injection, is_number, is_recorded, model_of}
 use Rattle.follow.specs.Given.{all_fit, given_to}
@@ -163,3 +164,17 @@ Judges plan placings calls witness answer =
 -- The moves of the witness are a run of the task that shows the calls of the record.
 abbrev pub Shows : Plan → List Placing → RecordedCalls → Witness → Type 0
 Shows plan placings calls witness = Judges plan placings calls witness true
+
+-- the events of moves
+abbrev pub events_of : List Move → List Event
+events_of [] = []
+events_of (Steps e shows ∷ moves) = e ∷ events_of moves
+events_of (Skips i ∷ moves) = events_of moves
+
+abbrev pub HasRun : Plan → List Event → Type 0
+HasRun plan events = (lines : List (Option Acted)) × IsRun plan events lines
+
+-- The task has a run of the witness's events, and each shows the calls.
+pub record IsShown (plan : Plan) (placings : List Placing) (calls : RecordedCalls) (witness : Witness) : Type 0 where
+  pub run : HasRun plan (events_of witness.moves)
+  pub shows : Shows plan placings calls witness

@@ -1,6 +1,6 @@
 //! Whether a witness shows that a run of a task follows a record.
 
-ghost use Rattle.std.specs.Prelude.{◌≡◌, ◌<◌, IfOk, IsErrOf, OnErr, OnOk, Some, false, map, option_map};
+ghost use Rattle.std.specs.Prelude.{◌≡◌, ◌<◌, IfOk, IsErrOf, OnErr, OnOk, Some, false, map, option_map, true};
 ghost use Rattle.std.specs.List.{slice_get};
 ghost use Rattle.instruction_set.specs.Views.{instruction_of, syscall_of};
 ghost use Rattle.kernel.specs.Walks.{call_in};
@@ -15,7 +15,7 @@ ghost use Rattle.simulator.specs.Steps.{StepsMachine};
 ghost use Rattle.simulator.specs.Views.{acted_of, line_of};
 ghost use Rattle.follow.specs.Moves.{Moves};
 ghost use Rattle.follow.specs.Outcomes.{before_at, second_in, seen_at, seen_by};
-ghost use Rattle.follow.specs.Shows.{Judged, Judges, first_standing};
+ghost use Rattle.follow.specs.Shows.{HasRun, Judged, Judges, events_of, first_standing};
 ghost use Rattle.follow.specs.Views.{before_of, if_stands, move_of, moves_of, pairs_of, placings_of, seen_of, setting_of, standing_of, witness_of};
 
 use crate::outcomes::Seen;
@@ -184,6 +184,7 @@ fn shows_by(
 ) -> Result<bool, Stop>
     ensures verdict { IfOk result (Judged (setting_of setting.now) (first_world setting.now.task.now)
         (first_standing setting.now.task.now (pairs_of setting.now.pairs.now) (calls_seen entries.now)) (moves_of moves.now)) }
+    ensures run { IfOk result (λ is. is ≡ true → HasRun setting.now.task.now (events_of (moves_of moves.now))) }
     ensures memory { OnErr result (IsErrOf result Stop.Memory) }
 {
     let Some(mut standing) = Standing::first(alloc, setting.task, setting.pairs, entries)? else {
@@ -198,7 +199,8 @@ fn shows_by(
     Ok(standing.is_at_end())
 }
 
-/// Whether the moves of a witness are a run of the task that shows the calls of a record. Want of memory is the only error.
+/// Whether the moves of a witness are a run of the task that shows the calls of a record. Where they are, the task has a run of their
+/// events. Want of memory is the only error.
 pub fn shows(
     alloc: Global,
     task: &Task,
@@ -207,6 +209,7 @@ pub fn shows(
     witness: &Witness,
 ) -> Result<bool, Stop>
     ensures verdict { IfOk result (Judges task.now (placings_of placings.now) (calls_seen entries.now) (witness_of witness.now)) }
+    ensures run { IfOk result (λ is. is ≡ true → HasRun task.now (events_of (witness_of witness.now).moves)) }
     ensures memory { OnErr result (IsErrOf result Stop.Memory) }
 {
     let setting = Setting {

@@ -272,7 +272,9 @@ fn begin<'a>(search: &Search<'a>, entries: &'a [Entry]) -> Result<Trail<'a>, Mem
     })
 }
 
-/// Searches a run of the task that shows the calls of a record, over at most so many states. What is found is checked by `shows`.
+/// Searches a run of the task that shows the calls of a record, over at most so many states. The processes of the record that none of its
+/// calls makes are those with which the task starts, in this order, but for those of a program `world`. What is found is checked by
+/// `shows`. Want of memory is the only error.
 pub fn follow<'a>(
     alloc: Global,
     task: &'a Task,
