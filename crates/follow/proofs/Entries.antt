@@ -9,7 +9,7 @@ use Rattle.std.proofs.lemmas.Option.{slice_get-map}
 use Rattle.records.specs.declared.entries.Entry.{Entry as EntryCode}
 use Rattle.records.specs.Calls.{RecordEntry, RecordedCalls}
 use Rattle.records.specs.EntryViews.{record_entry_seen}
-use Rattle.follow.specs.Shows.{if_next, kept, may_overtake, next_entry}
+use Rattle.follow.specs.Standings.{if_next, kept, may_overtake, next_entry}
 use Rattle.follow.specs.Views.{entries_behind}
 
 map-both : {A B : Type 0} (f : A → B) (xs ys : List A) → map f xs ++ map f ys ≡ map f (xs ++ ys)

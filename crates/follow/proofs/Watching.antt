@@ -18,7 +18,8 @@ use Rattle.task.proofs.FirstWorlds.{first_well_formed}
 use Rattle.simulator.specs.Lines.{Line, line_at}
 use Rattle.follow.specs.Moves.{Moves}
 use Rattle.follow.specs.Outcomes.{seen_at}
-use Rattle.follow.specs.Shows.{HasRun, Judged, Move, Steps, Skips, Setting, Standing, after_skip, after_step, events_of}
+use Rattle.follow.specs.Standings.{Setting, Standing, after_skip, after_step}
+use Rattle.follow.specs.Shows.{HasRun, Judged, Move, Steps, Skips, events_of}
 
 -- where a run stands, and what is left, come out so from each world that differs from this one in numbers alone
 abbrev Ends : Setting → World → Option Standing → List Move → Bool → Type 0

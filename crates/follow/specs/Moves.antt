@@ -7,7 +7,8 @@ use Rattle.simulator.specs.Lines.{Line}
 use Rattle.simulator.specs.Steps.{StepsMachine}
 use Rattle.task.specs.Plans.{programs_of_plan}
 use Rattle.follow.specs.Outcomes.{seen_at}
-use Rattle.follow.specs.Shows.{Move, Steps, Skips, Setting, Standing, after_skip, after_step}
+use Rattle.follow.specs.Standings.{Setting, Standing, after_skip, after_step}
+use Rattle.follow.specs.Shows.{Move, Steps, Skips}
 
 -- A step, with its line, leads to this world, and where the run stands then is what its line makes of that.
 pub record ShownStep (g : Setting) (w : World) (s : Standing) (e : Event) (shows : Option ℕ) (next : World) (after : Option Standing) : Type 0 where

@@ -1,11 +1,11 @@
 -- A run that shows the calls of a record, and those that don't, each for another reason.
-use Rattle.std.specs.Prelude.{ℕ, Bool, true, false, List, [], ◌∷◌, codes, Option, Some, None}
+use Rattle.std.specs.Prelude.{ℕ, Bool, true, false, List, [], ◌∷◌, ◌++◌, codes, Option, Some, None}
 use Rattle.rights.specs.Calls as calls
 use Rattle.rights.specs.Calls.{Call}
 use Rattle.rights.specs.Errors.{EBADF}
 use Rattle.rights.specs.Opens.{open_request}
 use Rattle.rights.specs.Sets.{all_rights, all_commands}
-use Rattle.instruction_set.specs.Programs.{Instruction, Halt, Invoke, Register, Number, Open, Read, Dup, Close}
+use Rattle.instruction_set.specs.Programs.{Instruction, Halt, Invoke, Register, Number, Open, Read, Dup, Close, Cap_enter}
 use Rattle.records.specs.Calls.{RealOperand, RecordedOutcome, Succeeds, Fails, RecordedEvent, Called, Ended, RecordEntry, RecordedCalls}
 use Rattle.records.specs.Calls as real
 use Rattle.task.specs.Breaches.{small_tree}
@@ -33,6 +33,14 @@ running mode code = record {
 abbrev pub copying : Bool → Plan
 copying mode = running mode (Invoke (Read (Number 2)) 3 ∷ Invoke (Dup (Number 2)) 3 ∷ Invoke (Close (Register 0)) 3 ∷ Halt ∷ [])
 
+-- It reads a byte, and does this.
+abbrev pub reading : List Instruction → Plan
+reading code = running false (Invoke (Read (Number 2)) 0 ∷ code)
+
+-- It enters the mode, and ends.
+abbrev pub entering : Plan
+entering = running false (Invoke Cap_enter 1 ∷ Halt ∷ [])
+
 -- It opens the file by its path, and ends.
 abbrev pub opening : Plan
 opening = running false (Invoke (Open (codes "/work/in") (open_request true false false false false)) 1 ∷ Halt ∷ [])
@@ -59,6 +67,9 @@ opens = calls_with calls.Open (real.Path (codes "/srv/in") ∷ real.Flags (open_
 abbrev pub writes : RecordedEvent
 writes = calls_with calls.Write (real.Number 9 ∷ real.Number 1 ∷ []) (Succeeds 1)
 
+abbrev pub enters : RecordedEvent
+enters = calls_with calls.Cap_enter [] (Succeeds 0)
+
 abbrev pub two_lines : RecordedEvent → RecordedEvent → RecordedCalls
 two_lines first second = at_line 1 first ∷ at_line 2 second ∷ []
 
@@ -81,6 +92,26 @@ by_moves moves = record { pairs = record { real = 540; model = 0 } ∷ []; moves
 abbrev pub four_steps : Witness
 four_steps = by_moves (next ∷ next ∷ next ∷ next ∷ [])
 
+-- Two processes that have the file read a byte of it each. In the record they are 540 and 541, whose line stands first.
+abbrev pub reading_both : Plan
+reading_both = record (reading (Halt ∷ [])) { starts = (reading (Halt ∷ [])).starts ++ (reading (Halt ∷ [])).starts }
+
+abbrev pub read_in : ℕ → ℕ → ℕ → RecordEntry
+read_in process first last = record { span = record { first = first; last = last }; process = process; event = reads }
+
+abbrev pub overlapping : RecordedCalls
+overlapping = read_in 541 2 3 ∷ read_in 540 1 4 ∷ []
+
+abbrev pub apart : RecordedCalls
+apart = read_in 541 1 2 ∷ read_in 540 3 4 ∷ []
+
+-- the later of the two lines first
+abbrev pub later_line_first : Witness
+later_line_first = record {
+  pairs = record { real = 540; model = 0 } ∷ record { real = 541; model = 1 } ∷ [];
+  moves = steps (Some 1) ∷ Steps (record { process = 1; input = 0; refuse = false }) (Some 0) ∷ [];
+}
+
 abbrev pub placings : List Placing
 placings = record { real = codes "/srv"; model = codes "/work" } ∷ []
 
@@ -101,3 +132,10 @@ pub record SomeRunsShow : Type 0 where
   pub skipped_in_mode : Judges (copying true) [] (at_line 1 writes ∷ []) (by_moves (Skips 0 ∷ [])) false
   pub skipped_grant : Judges (copying false) placings (at_line 1 opens ∷ []) (by_moves (Skips 0 ∷ [])) false
   pub skipped_named : Judges (copying false) [] (at_line 1 reads ∷ []) (by_moves (Skips 0 ∷ [])) false
+  pub repeated : Shows (reading (Invoke (Read (Number 2)) 2 ∷ Halt ∷ [])) [] (two_lines reads Ended) (by_moves (next ∷ silent ∷ next ∷ []))
+  pub repeated_later : Judges (reading (Invoke (Dup (Number 2)) 3 ∷ Invoke (Read (Number 2)) 3 ∷ Halt ∷ [])) []
+      (at_line 1 reads ∷ at_line 2 (copies 2) ∷ at_line 3 Ended ∷ []) (by_moves (next ∷ next ∷ silent ∷ next ∷ [])) false
+  pub silent_mode : Shows entering [] (at_line 1 Ended ∷ []) (by_moves (silent ∷ next ∷ []))
+  pub recorded_mode : Judges entering [] (two_lines enters Ended) (by_moves (silent ∷ next ∷ next ∷ [])) false
+  pub lines_overlap : Shows reading_both [] overlapping later_line_first
+  pub lines_apart : Judges reading_both [] apart later_line_first false

@@ -25,7 +25,8 @@ use Rattle.follow.specs.declared.standing.Standing.{Standing as StandingCode}
 use Rattle.follow.specs.Places.{Placing}
 use Rattle.follow.specs.Numbers.{Naming, ProcessPair}
 use Rattle.follow.specs.Outcomes.{Before, Past, Seen, Transfer, Reads, Writes}
-use Rattle.follow.specs.Shows.{Move, Steps, Skips, Setting, Standing, Witness}
+use Rattle.follow.specs.Standings.{Setting, Standing}
+use Rattle.follow.specs.Shows.{Move, Steps, Skips, Witness}
 use Rattle.follow.specs.Given.{Given, Descriptor, Amount, Status, Path, Flags, Rights, Commands, Directory}
 
 abbrev pub placing_of : PlacingCode → Placing

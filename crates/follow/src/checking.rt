@@ -15,7 +15,8 @@ ghost use Rattle.simulator.specs.Steps.{StepsMachine};
 ghost use Rattle.simulator.specs.Views.{acted_of, line_of};
 ghost use Rattle.follow.specs.Moves.{Moves};
 ghost use Rattle.follow.specs.Outcomes.{before_at, second_in, seen_at, seen_by};
-ghost use Rattle.follow.specs.Shows.{HasRun, Judged, Judges, events_of, first_standing};
+ghost use Rattle.follow.specs.Standings.{first_standing};
+ghost use Rattle.follow.specs.Shows.{HasRun, Judged, Judges, events_of};
 ghost use Rattle.follow.specs.Views.{before_of, if_stands, move_of, moves_of, pairs_of, placings_of, seen_of, setting_of, standing_of, witness_of};
 
 use crate::outcomes::Seen;

@@ -10,8 +10,8 @@ ghost use Rattle.simulator.specs.Views.{result_of};
 ghost use Rattle.records.specs.Calls.{Called, RecordEntry};
 ghost use Rattle.records.specs.EntryViews.{calls_seen, event_seen, made_seen, record_entry_seen};
 ghost use Rattle.records.specs.OperandViews.{operand_seen};
-ghost use Rattle.follow.specs.Shows.{after_shown, after_skip, after_step, first_standing, if_shown, if_skipped, is_counted, is_halt, is_limiting, is_outside, kept, new_namings, skipped};
-ghost use Rattle.follow.specs.Shows.{may_overtake, may_skip, next_entry, shows_call, shows_event};
+ghost use Rattle.follow.specs.Standings.{after_shown, after_skip, after_step, first_standing, if_shown, if_skipped, is_counted, is_halt, is_limiting, is_outside, kept, new_namings, skipped};
+ghost use Rattle.follow.specs.Standings.{may_overtake, may_skip, next_entry, shows_call, shows_event};
 ghost use Rattle.follow.specs.Views.{entries_behind, if_stands, namings_seen, pairs_of, seen_of, setting_of, standing_of};
 
 use crate::given::{Names, call_fits};

@@ -12,7 +12,8 @@ use Rattle.simulator.proofs.Splitting.{map-drop, drop-end}
 use Rattle.follow.specs.declared.witnesses.Move.{Move as MoveCode}
 use Rattle.follow.specs.declared.witnesses.Move.TheVariants.{Step}
 use Rattle.follow.specs.Moves.{Moves}
-use Rattle.follow.specs.Shows.{Judged, Move, Setting, Standing, events_of, first_standing}
+use Rattle.follow.specs.Standings.{Setting, Standing, first_standing}
+use Rattle.follow.specs.Shows.{Judged, Move, events_of}
 use Rattle.follow.specs.Views.{move_of, moves_of, pairs_of, setting_of, standing_of}
 use Rattle.follow.proofs.Watching.{Leads, byte-more, has-run, leads-start, leads-move, leads-stop, leads-end}
 use Rattle.follow.proofs.checking.shows_by.Goals as goal
@@ -29,7 +30,9 @@ loop-step-init c =
       well_formed = subst (λ (p : Plan). IsWellFormed (programs_of_plan p) (machine_world c.in_ok-machine.machine)) same c.in_ok-machine.ensures.well_formed;
       bytes = λ bytes. bytes;
       leads =
-          subst (λ (o : Option Standing). Leads (setting_of c.args.setting.now) o (moves_of c.args.moves.now) (machine_world c.in_ok-machine.machine) (standing_of c.in-Some.standing) (moves_of c.args.moves.now))
+          subst
+          (λ (o : Option Standing). Leads (setting_of c.args.setting.now) o (moves_of c.args.moves.now) (machine_world c.in_ok-machine.machine)
+          (standing_of c.in-Some.standing) (moves_of c.args.moves.now))
           (ap (option_map standing_of) (sym c.in-Some.is) ∙ c.in_ok-standing.ensures)
           (leads-start (setting_of c.args.setting.now) (moves_of c.args.moves.now) (machine_world c.in_ok-machine.machine) (standing_of c.in-Some.standing) test c.in_ok-machine.ensures.world);
     }

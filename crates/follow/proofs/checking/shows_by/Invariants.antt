@@ -5,7 +5,8 @@ use Rattle.records.specs.EntryViews.{calls_seen}
 use Rattle.task.specs.Limits.{is_plan}
 use Rattle.task.specs.Plans.{programs_of_plan}
 use Rattle.simulator.specs.Machines.{machine_world}
-use Rattle.follow.specs.Shows.{events_of, first_standing}
+use Rattle.follow.specs.Standings.{first_standing}
+use Rattle.follow.specs.Shows.{events_of}
 use Rattle.follow.specs.Views.{moves_of, pairs_of, setting_of, standing_of}
 use Rattle.follow.proofs.Watching.{Leads}
 use Rattle.follow.proofs.checking.shows_by.Given as goal

@@ -4,7 +4,7 @@ use Rattle.records.specs.declared.entries.Entry.{Entry as EntryCode}
 use Rattle.records.specs.Calls.{RecordedCalls}
 use Rattle.records.specs.EntryViews.{calls_seen, record_entry_seen}
 use Rattle.simulator.proofs.Splitting.{map-drop}
-use Rattle.follow.specs.Shows.{kept}
+use Rattle.follow.specs.Standings.{kept}
 use Rattle.follow.specs.Views.{entries_behind}
 use Rattle.follow.proofs.Entries.{kept-more}
 use Rattle.follow.proofs.standing.counted.Goals as goal

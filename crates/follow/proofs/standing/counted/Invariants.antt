@@ -2,7 +2,7 @@ use Rattle.std.proofs.Common.{◌≡◌, drop}
 use Rattle.std.specs.Prelude.{◌++◌}
 use Rattle.std.specs.List.{flat_map}
 use Rattle.records.specs.EntryViews.{calls_seen}
-use Rattle.follow.specs.Shows.{kept}
+use Rattle.follow.specs.Standings.{kept}
 use Rattle.follow.specs.Views.{entries_behind}
 use Rattle.follow.proofs.standing.counted.Given as goal
 
