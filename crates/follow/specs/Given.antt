@@ -1,11 +1,12 @@
 -- What a call of a task is given, beside what a recorded call was given. (own)
-use Rattle.std.specs.Prelude.{◌==◌, ◌&&◌, ℕ, Bool, true, false, List, [], ◌∷◌}
+use Rattle.std.specs.Prelude.{◌==◌, ◌&&◌, ℕ, Bool, true, false, List, [], ◌∷◌, ◌++◌, Option, Some, None}
 use Rattle.std.specs.Bool.{beq}
 use Rattle.std.specs.Str.{bytes_eq}
 use Rattle.rights.specs.Opens.{OpenRequest}
 use Rattle.rights.specs.Values.{CommandSet, PathText, ProcessNumber, RightSet}
-use Rattle.instruction_set.specs.Programs.{Operand, Syscall, Open, Openat, Read, Write, Sendfd, Recvfd, Lseek, Ftruncate, Fsync, Fstat, Fcntl_getfl, Fcntl_setfl, Fstatat, Stat, Mkdirat}
-use Rattle.instruction_set.specs.Programs.{Mkdir, Unlinkat, Unlink, Renameat, Dup, Close, Cap_rights_limit, Cap_fcntls_limit, Cap_enter, Cap_getmode, Socketpair, Fork}
+use Rattle.instruction_set.specs.CallNeeds.{first_operand}
+use Rattle.instruction_set.specs.Programs.{Operand, Syscall, Open, Openat, Write, Sendfd, Lseek, Ftruncate, Fcntl_setfl, Fstatat, Stat, Mkdirat, Mkdir, Unlinkat, Unlink, Renameat}
+use Rattle.instruction_set.specs.Programs.{Cap_rights_limit, Cap_fcntls_limit}
 use Rattle.kernel.specs.Answers.{operand_value}
 use Rattle.records.specs.Calls.{RealOperand}
 use Rattle.records.specs.Calls as real
@@ -28,34 +29,32 @@ module _ (registers : List ℕ) where
   abbrev pub descriptor : Operand → Given
   descriptor x = Descriptor (operand_value registers x)
 
+  abbrev pub first_given : Option Operand → List Given
+  first_given None = []
+  first_given (Some x) = descriptor x ∷ []
+
+  -- beside its first descriptor
+  abbrev pub rest_given : Syscall → List Given
+  rest_given (Open path flags) = Path path ∷ Flags flags ∷ []
+  rest_given (Openat x path flags) = Path path ∷ Flags flags ∷ []
+  rest_given (Write x v) = Amount ∷ []
+  rest_given (Sendfd x y v) = descriptor y ∷ Amount ∷ []
+  rest_given (Lseek x v) = Amount ∷ []
+  rest_given (Ftruncate x v) = Amount ∷ []
+  rest_given (Fcntl_setfl x v) = Status (operand_value registers v) ∷ []
+  rest_given (Fstatat x path) = Path path ∷ []
+  rest_given (Stat path) = Path path ∷ []
+  rest_given (Mkdirat x path) = Path path ∷ []
+  rest_given (Mkdir path) = Path path ∷ []
+  rest_given (Unlinkat x path directory) = Path path ∷ Directory directory ∷ []
+  rest_given (Unlink path directory) = Path path ∷ Directory directory ∷ []
+  rest_given (Renameat x from y to) = Path from ∷ descriptor y ∷ Path to ∷ []
+  rest_given (Cap_rights_limit x rights) = Rights rights ∷ []
+  rest_given (Cap_fcntls_limit x commands) = Commands commands ∷ []
+  rest_given _ = []
+
   abbrev pub given_to : Syscall → List Given
-  given_to (Open path flags) = Path path ∷ Flags flags ∷ []
-  given_to (Openat x path flags) = descriptor x ∷ Path path ∷ Flags flags ∷ []
-  given_to (Read x) = descriptor x ∷ []
-  given_to (Write x v) = descriptor x ∷ Amount ∷ []
-  given_to (Sendfd x y v) = descriptor x ∷ descriptor y ∷ Amount ∷ []
-  given_to (Recvfd x) = descriptor x ∷ []
-  given_to (Lseek x v) = descriptor x ∷ Amount ∷ []
-  given_to (Ftruncate x v) = descriptor x ∷ Amount ∷ []
-  given_to (Fsync x) = descriptor x ∷ []
-  given_to (Fstat x) = descriptor x ∷ []
-  given_to (Fcntl_getfl x) = descriptor x ∷ []
-  given_to (Fcntl_setfl x v) = descriptor x ∷ Status (operand_value registers v) ∷ []
-  given_to (Fstatat x path) = descriptor x ∷ Path path ∷ []
-  given_to (Stat path) = Path path ∷ []
-  given_to (Mkdirat x path) = descriptor x ∷ Path path ∷ []
-  given_to (Mkdir path) = Path path ∷ []
-  given_to (Unlinkat x path directory) = descriptor x ∷ Path path ∷ Directory directory ∷ []
-  given_to (Unlink path directory) = Path path ∷ Directory directory ∷ []
-  given_to (Renameat x from y to) = descriptor x ∷ Path from ∷ descriptor y ∷ Path to ∷ []
-  given_to (Dup x) = descriptor x ∷ []
-  given_to (Close x) = descriptor x ∷ []
-  given_to (Cap_rights_limit x rights) = descriptor x ∷ Rights rights ∷ []
-  given_to (Cap_fcntls_limit x commands) = descriptor x ∷ Commands commands ∷ []
-  given_to Cap_enter = []
-  given_to Cap_getmode = []
-  given_to Socketpair = []
-  given_to Fork = []
+  given_to call = first_given (first_operand call) ++ rest_given call
 
 abbrev pub same_flags : OpenRequest → OpenRequest → Bool
 same_flags f g = beq f.read g.read && (beq f.write g.write && (beq f.append g.append && (beq f.create g.create && beq f.trunc g.trunc)))

@@ -5,7 +5,7 @@ ghost use Rattle.instruction_set.specs.Paths.{has_path};
 ghost use Rattle.instruction_set.specs.Views.{operand_of, syscall_of};
 ghost use Rattle.kernel.specs.Answers.{operand_value};
 ghost use Rattle.records.specs.OperandViews.{operand_seen};
-ghost use Rattle.follow.specs.Given.{all_fit, fits, given_to};
+ghost use Rattle.follow.specs.Given.{all_fit, fits, given_to, rest_given};
 ghost use Rattle.follow.specs.Views.{given_of, namings_seen, placings_of};
 
 use crate::numbers::{Naming, is_number, named};
@@ -92,8 +92,9 @@ fn all_fit(names: &Names<'_>, operands: &[Real], given: &[Given<'_>]) -> bool
     }
 }
 
-/// Whether a call that has a path is given what the recorded process was given.
-fn path_call_fits(
+/// Whether the paths that a call is given, and what stands beside them but for its first descriptor, are what the recorded process was
+/// given.
+fn paths_fit(
     names: &Names<'_>,
     registers: &[u32; REGISTERS],
     call: &Syscall,
@@ -101,76 +102,84 @@ fn path_call_fits(
 ) -> bool
     requires { has_path (syscall_of call.now) ≡ true }
     ensures { result ≡ all_fit (placings_of names.now.placings.now) (namings_seen names.now.namings.now) names.now.process
-        (map operand_seen operands.now) (given_to registers.now (syscall_of call.now)) }
+        (map operand_seen operands.now) (rest_given registers.now (syscall_of call.now)) }
 {
     match call {
-        Syscall::Open { path, flags } => all_fit(
-            names,
-            operands,
-            &[Given::Path(path.bytes()), Given::Flags(*flags)],
-        ),
-        Syscall::Openat {
-            descriptor,
-            path,
-            flags,
-        } => {
-            let descriptor = Given::Descriptor(value_of(registers, *descriptor));
-            all_fit(
-                names,
-                operands,
-                &[descriptor, Given::Path(path.bytes()), Given::Flags(*flags)],
-            )
+        Syscall::Open { path, flags } | Syscall::Openat { path, flags, .. } => {
+            let given = [Given::Path(path.bytes()), Given::Flags(*flags)];
+            all_fit(names, operands, &given)
         }
-        Syscall::Stat { path } | Syscall::Mkdir { path } => all_fit(
-            names,
-            operands,
-            &[Given::Path(path.bytes())],
-        ),
-        Syscall::Fstatat { descriptor, path } | Syscall::Mkdirat { descriptor, path } => {
-            let descriptor = Given::Descriptor(value_of(registers, *descriptor));
-            all_fit(names, operands, &[descriptor, Given::Path(path.bytes())])
-        }
-        Syscall::Unlink { path, directory } => all_fit(
-            names,
-            operands,
-            &[Given::Path(path.bytes()), Given::Directory(*directory)],
-        ),
-        Syscall::Unlinkat {
-            descriptor,
+        Syscall::Unlink { path, directory }
+        | Syscall::Unlinkat {
             path,
             directory,
+            ..
         } => {
-            let descriptor = Given::Descriptor(value_of(registers, *descriptor));
-            all_fit(
-                names,
-                operands,
-                &[
-                    descriptor,
-                    Given::Path(path.bytes()),
-                    Given::Directory(*directory),
-                ],
-            )
+            let given = [Given::Path(path.bytes()), Given::Directory(*directory)];
+            all_fit(names, operands, &given)
         }
         Syscall::Renameat {
-            descriptor,
             path,
             target,
             new_path,
+            ..
         } => {
-            let descriptor = Given::Descriptor(value_of(registers, *descriptor));
             let target = Given::Descriptor(value_of(registers, *target));
-            all_fit(
-                names,
-                operands,
-                &[
-                    descriptor,
-                    Given::Path(path.bytes()),
-                    target,
-                    Given::Path(new_path.bytes()),
-                ],
-            )
+            let given = [
+                Given::Path(path.bytes()),
+                target,
+                Given::Path(new_path.bytes()),
+            ];
+            all_fit(names, operands, &given)
         }
+        Syscall::Stat { path }
+        | Syscall::Mkdir { path }
+        | Syscall::Fstatat { path, .. }
+        | Syscall::Mkdirat { path, .. } => all_fit(names, operands, &[Given::Path(path.bytes())]),
         _ => unreachable!(),
+    }
+}
+
+/// Whether what a call is given beside its first descriptor is what the recorded process was given.
+fn rest_fits(
+    names: &Names<'_>,
+    registers: &[u32; REGISTERS],
+    call: &Syscall,
+    operands: &[Real],
+) -> bool
+    ensures { result ≡ all_fit (placings_of names.now.placings.now) (namings_seen names.now.namings.now) names.now.process
+        (map operand_seen operands.now) (rest_given registers.now (syscall_of call.now)) }
+{
+    match call {
+        Syscall::Write { .. } | Syscall::Lseek { .. } | Syscall::Ftruncate { .. } => {
+            all_fit(names, operands, &[Given::Amount])
+        }
+        Syscall::FcntlSetfl { flags, .. } => {
+            let given = [Given::Status(value_of(registers, *flags))];
+            all_fit(names, operands, &given)
+        }
+        Syscall::Sendfd { sent, .. } => {
+            let given = [Given::Descriptor(value_of(registers, *sent)), Given::Amount];
+            all_fit(names, operands, &given)
+        }
+        Syscall::CapRightsLimit { rights, .. } => {
+            let given = [Given::Rights(*rights)];
+            all_fit(names, operands, &given)
+        }
+        Syscall::CapFcntlsLimit { commands, .. } => {
+            let given = [Given::Commands(*commands)];
+            all_fit(names, operands, &given)
+        }
+        Syscall::Open { .. } | Syscall::Openat { .. } | Syscall::Stat { .. } => {
+            paths_fit(names, registers, call, operands)
+        }
+        Syscall::Mkdir { .. } | Syscall::Fstatat { .. } | Syscall::Mkdirat { .. } => {
+            paths_fit(names, registers, call, operands)
+        }
+        Syscall::Unlink { .. } | Syscall::Unlinkat { .. } | Syscall::Renameat { .. } => {
+            paths_fit(names, registers, call, operands)
+        }
+        _ => all_fit(names, operands, &[]),
     }
 }
 
@@ -184,80 +193,14 @@ pub(crate) fn call_fits(
     ensures { result ≡ all_fit (placings_of names.now.placings.now) (namings_seen names.now.namings.now) names.now.process
         (map operand_seen operands.now) (given_to registers.now (syscall_of call.now)) }
 {
-    match call {
-        Syscall::Read { descriptor }
-        | Syscall::Recvfd { descriptor }
-        | Syscall::Fsync { descriptor }
-        | Syscall::Fstat { descriptor }
-        | Syscall::FcntlGetfl { descriptor }
-        | Syscall::Dup { descriptor }
-        | Syscall::Close { descriptor } => all_fit(
-            names,
-            operands,
-            &[Given::Descriptor(value_of(registers, *descriptor))],
-        ),
-        Syscall::Write { descriptor, .. }
-        | Syscall::Lseek { descriptor, .. }
-        | Syscall::Ftruncate { descriptor, .. } => {
-            all_fit(
-                names,
-                operands,
-                &[
-                    Given::Descriptor(value_of(registers, *descriptor)),
-                    Given::Amount,
-                ],
-            )
+    let Some(descriptor) = call.first_operand() else {
+        return rest_fits(names, registers, call, operands);
+    };
+    let descriptor = Given::Descriptor(value_of(registers, descriptor));
+    match operands {
+        [] => false,
+        [first, operands @ ..] => {
+            fits(names, first, &descriptor) && rest_fits(names, registers, call, operands)
         }
-        Syscall::Sendfd {
-            descriptor,
-            sent,
-            ..
-        } => {
-            let sent = Given::Descriptor(value_of(registers, *sent));
-            all_fit(
-                names,
-                operands,
-                &[
-                    Given::Descriptor(value_of(registers, *descriptor)),
-                    sent,
-                    Given::Amount,
-                ],
-            )
-        }
-        Syscall::FcntlSetfl { descriptor, flags } => {
-            let flags = Given::Status(value_of(registers, *flags));
-            all_fit(
-                names,
-                operands,
-                &[Given::Descriptor(value_of(registers, *descriptor)), flags],
-            )
-        }
-        Syscall::CapRightsLimit { descriptor, rights } => {
-            all_fit(
-                names,
-                operands,
-                &[
-                    Given::Descriptor(value_of(registers, *descriptor)),
-                    Given::Rights(*rights),
-                ],
-            )
-        }
-        Syscall::CapFcntlsLimit {
-            descriptor,
-            commands,
-        } => {
-            all_fit(
-                names,
-                operands,
-                &[
-                    Given::Descriptor(value_of(registers, *descriptor)),
-                    Given::Commands(*commands),
-                ],
-            )
-        }
-        Syscall::CapEnter | Syscall::CapGetmode | Syscall::Socketpair | Syscall::Fork => {
-            all_fit(names, operands, &[])
-        }
-        _ => path_call_fits(names, registers, call, operands),
     }
 }
