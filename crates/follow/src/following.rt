@@ -148,19 +148,23 @@ fn point_of(search: &Search<'_>, lead: &Lead<'_>, process: u8) -> Result<Option<
 }
 
 impl<'a> Trail<'a> {
-    /// Notes a point at which the process of the first entry that is left stands, if no more were shown before.
+    /// Notes how far a run has come, if none has come further.
+    fn reach(&mut self, lead: &Lead<'a>) {
+        let left = lead.standing.left.len();
+        if left < self.fewest || self.first_left.is_none() {
+            self.points.clear();
+            self.fewest = left;
+            self.first_left = lead.standing.left.first().copied();
+        }
+    }
+
+    /// Notes the point at which the process of the first entry that is left stands, if the run has come as far as any.
     fn note(&mut self, search: &Search<'a>, lead: &Lead<'a>) -> Result<(), Memory> {
         let Some(entry) = lead.standing.left.first() else {
             return Ok(());
         };
-        let left = lead.standing.left.len();
-        if left > self.fewest || self.points.len() >= MOST_POINTS {
+        if lead.standing.left.len() > self.fewest || self.points.len() >= MOST_POINTS {
             return Ok(());
-        }
-        if left < self.fewest || self.first_left.is_none() {
-            self.points.clear();
-            self.fewest = left;
-            self.first_left = Some(*entry);
         }
         if let Some(process) = stand_in(&lead.pairs, entry.process) {
             if let Some(point) = point_of(search, lead, process)? {
@@ -202,6 +206,7 @@ impl<'a> Trail<'a> {
         if !is_new {
             return Ok(None);
         }
+        self.reach(&lead);
         let next = branches(search, &lead)?;
         if next.is_empty() {
             self.note(search, &lead)?;
