@@ -1,0 +1,4 @@
+pub mod Paths
+pub mod Entries
+pub mod Watching
+pub mod Samples

@@ -1,0 +1,10 @@
+pub mod Places
+pub mod Numbers
+pub mod Given
+pub mod Outcomes
+pub mod Standings
+pub mod Shows
+pub mod Moves
+pub mod Samples
+pub mod Views
+pub mod FollowedViews

@@ -1,0 +1,49 @@
+-- Places of a record, and those of a task that stand for them. (own)
+use Rattle.std.specs.Prelude.{◌&&◌, not, nat_eq, Bool, true, false, List, [], ◌∷◌, ◌++◌, drop, take, length, Option, Some, None, if◌then◌else◌}
+use Rattle.std.specs.List.{list_any}
+use Rattle.std.specs.Str.{bytes_eq}
+use Rattle.rights.specs.Values.{PathText}
+use Rattle.file_tree.specs.Places.{names_text, slash}
+use Rattle.instruction_set.specs.Programs.{Instruction, Invoke, Open, Stat, Mkdir, Unlink}
+use Rattle.task.specs.Plans.{Grant, NamedProgram, Plan}
+
+-- REAL=MODEL: what lies at the first place of a record or beneath it lies, in the task, at the second or beneath it. A place is written
+-- without a slash at its end, so that of the root is empty.
+pub record Placing : Type 0 where
+  pub real : PathText
+  pub model : PathText
+
+-- a name of a place ends where its text ends, or before a `/`
+abbrev pub ends_name : PathText → Bool
+ends_name [] = true
+ends_name (b ∷ text) = nat_eq b slash
+
+-- whether a path is that of a place, or leads beneath it
+unfoldable pub lies_at : PathText → PathText → Bool
+lies_at place path = bytes_eq (take (length place) path) place && ends_name (drop (length place) path)
+
+-- what a path of the record is in the task, by the first of these at which it lies
+abbrev pub placed : List Placing → PathText → PathText
+placed [] path = path
+placed (p ∷ placings) path = if lies_at p.real path then p.model ++ drop (length p.real) path else placed placings path
+
+-- the path from the root that an instruction's call names
+abbrev pub global_path : Instruction → Option PathText
+global_path (Invoke (Open path flags) otherwise) = Some path
+global_path (Invoke (Stat path) otherwise) = Some path
+global_path (Invoke (Mkdir path) otherwise) = Some path
+global_path (Invoke (Unlink path directory) otherwise) = Some path
+global_path _ = None
+
+abbrev pub is_path_of : PathText → Option PathText → Bool
+is_path_of path None = false
+is_path_of path (Some named) = bytes_eq named path
+
+abbrev pub names_path : PathText → List Instruction → Bool
+names_path path code = list_any (λ i. is_path_of path (global_path i)) code
+
+-- The path lies in no grant of the task, and no call of its programs names it.
+abbrev pub is_foreign : Plan → PathText → Bool
+is_foreign plan path =
+    not (list_any (λ (g : Grant). lies_at (names_text g.path) path) plan.grants)
+    && not (list_any (λ (p : NamedProgram). names_path path p.code) plan.programs)

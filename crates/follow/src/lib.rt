@@ -1,0 +1,26 @@
+//! Whether a run of a task shows the calls of a record, and the search for one that does.
+//!
+//! That a run shows them is told by `shows` alone, whose contract ties it to the definition in `specs/Shows.antt`. How the run was found
+//! needs no belief.
+#![tactic(auto)]
+
+mod branching;
+pub mod checking;
+mod digests;
+pub mod following;
+mod given;
+pub mod laws;
+mod leads;
+pub mod numbers;
+mod outcomes;
+pub mod places;
+mod standing;
+mod transfers;
+pub mod witnesses;
+mod worlds;
+
+pub use checking::shows;
+pub use following::{AtPoint, Followed, Parted, follow};
+pub use numbers::ProcessPair;
+pub use places::Placing;
+pub use witnesses::{Move, Witness};

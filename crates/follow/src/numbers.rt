@@ -1,0 +1,195 @@
+//! Numbers of a record, and those of a task that stand for them.
+
+ghost use Rattle.std.specs.Prelude.{◌≡◌, ◌++◌, ◌∷◌, [], IfOk, OnOk, Some, map};
+ghost use Rattle.std.specs.List.{list_all};
+ghost use Rattle.task.specs.Views.{starts_of};
+ghost use Rattle.follow.specs.Numbers.{are_apart, child_namings, first_namings, given_namings, is_injection, is_number, is_of, is_recorded, model_of, named, naming};
+ghost use Rattle.follow.specs.Views.{naming_of, namings_seen, pair_of, pairs_of};
+ghost use Rattle.task.specs.Views.{first_descriptor_of};
+
+use rights::Memory;
+use std::alloc::Global;
+use task::{FirstDescriptor, Start};
+
+/// A process of the record, and the number of the process of the task that stands for it.
+#[derive(Clone, Copy)]
+pub struct ProcessPair {
+    pub real: u32,
+    pub model: u8,
+}
+
+/// From here on this number of a process of the task stands for a number of the recorded process, or none does.
+#[derive(Clone, Copy)]
+pub(crate) struct Naming {
+    pub process: usize,
+    pub real: u32,
+    pub model: Option<u32>,
+}
+
+/// The process that stands for one of the record.
+pub(crate) fn model_of(pairs: &[ProcessPair], real: u32) -> Option<usize>
+    ensures { result ≡ model_of (pairs_of pairs.now) real }
+{
+    match pairs {
+        [] => None,
+        [pair, pairs @ ..] => {
+            if pair.real == real {
+                Some(usize::from(pair.model))
+            } else {
+                model_of(pairs, real)
+            }
+        }
+    }
+}
+
+/// Whether it is this process that stands for one of the record.
+pub(crate) fn is_process(pairs: &[ProcessPair], real: u32, model: usize) -> bool
+    ensures { result ≡ is_number (model_of (pairs_of pairs.now) real) model }
+{
+    match model_of(pairs, real) {
+        None => false,
+        Some(own) => own == model,
+    }
+}
+
+/// Whether a process stands for one of the record.
+pub(crate) fn is_recorded(pairs: &[ProcessPair], model: usize) -> bool
+    ensures { result ≡ is_recorded (pairs_of pairs.now) model }
+{
+    match pairs {
+        [] => false,
+        [pair, pairs @ ..] => usize::from(pair.model) == model || is_recorded(pairs, model),
+    }
+}
+
+/// Whether two pairs have neither process in common.
+fn are_apart(pair: ProcessPair, other: ProcessPair) -> bool
+    ensures { result ≡ are_apart (pair_of pair) (pair_of other) }
+{
+    !(pair.real == other.real) && !(pair.model == other.model)
+}
+
+/// Whether a pair has neither process in common with any of these.
+fn is_apart(pair: ProcessPair, pairs: &[ProcessPair]) -> bool
+    ensures { result ≡ list_all (are_apart (pair_of pair)) (pairs_of pairs.now) }
+{
+    match pairs {
+        [] => true,
+        [other, pairs @ ..] => are_apart(pair, *other) && is_apart(pair, pairs),
+    }
+}
+
+/// Whether no process stands for two, and none has two that stand for it.
+pub(crate) fn is_injection(pairs: &[ProcessPair]) -> bool
+    ensures { result ≡ is_injection (pairs_of pairs.now) }
+{
+    match pairs {
+        [] => true,
+        [pair, pairs @ ..] => is_apart(*pair, pairs) && is_injection(pairs),
+    }
+}
+
+impl Naming {
+    /// Whether it is of this number.
+    fn is_of(&self, process: usize, real: u32) -> bool
+        ensures { result ≡ is_of process real (naming_of self.now) }
+    {
+        self.process == process && self.real == real
+    }
+}
+
+/// What stands for a number of a recorded process, if anything does.
+pub(crate) fn named(namings: &[Naming], process: usize, real: u32) -> Option<u32>
+    ensures { result ≡ named (namings_seen namings.now) process real }
+{
+    let mut model = None;
+    for naming in namings {
+        if naming.is_of(process, real) {
+            model = naming.model;
+        }
+    }
+    model
+}
+
+/// Whether it is this number.
+pub(crate) fn is_number(number: Option<u32>, other: u32) -> bool
+    ensures { result ≡ is_number number other }
+{
+    match number {
+        None => false,
+        Some(number) => number == other,
+    }
+}
+
+/// A first descriptor of a process stands for that of the same number.
+fn given_naming(process: usize, given: &FirstDescriptor) -> Naming
+    ensures { naming_of result ≡ naming process (first_descriptor_of given.now).number (Some (first_descriptor_of given.now).number) }
+{
+    let number = u32::from(given.number);
+    Naming {
+        process,
+        real: number,
+        model: Some(number),
+    }
+}
+
+/// Adds that first descriptors of a process stand for those of the same numbers.
+fn add_given(
+    namings: &mut Vec<Naming>,
+    process: usize,
+    descriptors: &[FirstDescriptor],
+) -> Result<(), Memory>
+    ensures { OnOk result (namings_seen namings.new.items ≡ namings_seen namings.old.items ++ given_namings process (map first_descriptor_of descriptors.now)) }
+{
+    for given in descriptors {
+        let naming = given_naming(process, given);
+        namings.push(naming)?;
+    }
+    Ok(())
+}
+
+/// Adds that the first descriptors of all processes stand for those of the same numbers.
+pub(crate) fn add_first(namings: &mut Vec<Naming>, starts: &[Start]) -> Result<(), Memory>
+    ensures { OnOk result (namings_seen namings.new.items ≡ namings_seen namings.old.items ++ first_namings 0 (starts_of starts.now)) }
+{
+    for (process, start) in starts.iter().enumerate() {
+        add_given(namings, process, &start.descriptors)?;
+    }
+    Ok(())
+}
+
+/// The numbers of a parent, as those of its child.
+fn child_namings(
+    alloc: Global,
+    namings: &[Naming],
+    parent: usize,
+    child: usize,
+) -> Result<Vec<Naming>, Memory>
+    ensures { IfOk result (λ added. namings_seen added.items ≡ child_namings (namings_seen namings.now) parent child) }
+{
+    let mut added = Vec::new(alloc);
+    for naming in namings {
+        if naming.process == parent {
+            added.push(Naming {
+                process: child,
+                ..*naming
+            })?;
+        }
+    }
+    Ok(added)
+}
+
+/// Adds that a child has the numbers of its parent.
+pub(crate) fn add_child(
+    alloc: Global,
+    namings: &mut Vec<Naming>,
+    parent: usize,
+    child: usize,
+) -> Result<(), Memory>
+    ensures { OnOk result (namings_seen namings.new.items
+        ≡ namings_seen namings.old.items ++ child_namings (namings_seen namings.old.items) parent child) }
+{
+    let added = child_namings(alloc, namings, parent, child)?;
+    namings.extend_from_slice(&added)?;
+    Ok(())
+}

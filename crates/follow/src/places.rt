@@ -1,0 +1,157 @@
+//! Places of a record, and those of a task that stand for them.
+
+ghost use Rattle.std.specs.Prelude.{◌≡◌, ◌++◌, IfOk, not, option_map};
+ghost use Rattle.std.specs.List.{list_any};
+ghost use Rattle.std.specs.Str.{bytes_eq};
+ghost use Rattle.file_tree.specs.Places.{names_text};
+ghost use Rattle.instruction_set.specs.Views.{code_of, instruction_of};
+ghost use Rattle.task.specs.Plans.{Grant as GrantSeen, NamedProgram as NamedProgramSeen};
+ghost use Rattle.task.specs.Views.{grants_of, programs_of};
+ghost use Rattle.follow.specs.Places.{ends_name, global_path, is_foreign, is_path_of, lies_at, names_path, placed};
+ghost use Rattle.follow.specs.Views.{placings_of};
+
+use instruction_set::{Instruction, Syscall};
+use rights::Memory;
+use std::alloc::Global;
+use task::{Grant, NamedProgram, Task};
+
+/// What lies at the place `real` of a record, or beneath it, lies at the place `model` of the task, or beneath it. A place is written
+/// without a slash at its end, so that of the root is empty.
+#[derive(Drop)]
+pub struct Placing {
+    pub real: Vec<u8>,
+    pub model: Vec<u8>,
+}
+
+/// What a path of the record is in the task, in two parts.
+#[derive(Clone, Copy)]
+pub(crate) struct Placed<'a> {
+    pub front: &'a [u8],
+    pub back: &'a [u8],
+}
+
+/// Whether a name of a place ends before a text.
+fn ends_name(text: &[u8]) -> bool
+    ensures { result ≡ ends_name text.now }
+{
+    matches!(text, [] | [b'/', ..])
+}
+
+/// Whether a path is that of a place, or leads beneath it.
+#[tactic(auto, unfolding(crate::specs::Places::lies_at))]
+fn lies_at(place: &[u8], path: &[u8]) -> bool
+    ensures { result ≡ lies_at place.now path.now }
+{
+    match path.strip_prefix(place) {
+        None => false,
+        Some(rest) => ends_name(rest),
+    }
+}
+
+/// What a path of the record is in the task.
+#[tactic(auto, unfolding(crate::specs::Places::lies_at))]
+pub(crate) fn in_task<'a>(placings: &'a [Placing], path: &'a [u8]) -> Placed<'a>
+    ensures { result.front.now ++ result.back.now ≡ placed (placings_of placings.now) path.now }
+{
+    match placings {
+        [] => Placed {
+            front: &[],
+            back: path,
+        },
+        [placing, placings @ ..] => {
+            if let Some(back) = path.strip_prefix(placing.real.as_slice()) {
+                if ends_name(back) {
+                    return Placed {
+                        front: &placing.model,
+                        back,
+                    };
+                }
+            }
+            in_task(placings, path)
+        }
+    }
+}
+
+impl<'a> Placed<'a> {
+    /// Whether this is it.
+    pub(crate) fn is(&self, path: &[u8]) -> bool
+        ensures { result ≡ bytes_eq path.now (self.now.front.now ++ self.now.back.now) }
+    {
+        match path.strip_prefix(self.front) {
+            None => false,
+            Some(rest) => rest == self.back,
+        }
+    }
+
+    /// It, in one piece.
+    pub(crate) fn text(&self, alloc: Global) -> Result<Vec<u8>, Memory>
+        ensures { IfOk result (λ text. text.items ≡ self.now.front.now ++ self.now.back.now) }
+    {
+        let mut text = Vec::from_slice(alloc, self.front)?;
+        text.extend_from_slice(self.back)?;
+        Ok(text)
+    }
+}
+
+/// The path from the root that an instruction's call names.
+fn global_path(instruction: &Instruction) -> Option<&[u8]>
+    ensures { option_map (λ path. path.now) result ≡ global_path (instruction_of instruction.now) }
+{
+    match instruction {
+        Instruction::Invoke { call, .. } => match call {
+            Syscall::Open { path, .. }
+            | Syscall::Stat { path }
+            | Syscall::Mkdir { path }
+            | Syscall::Unlink { path, .. } => Some(path.bytes()),
+            _ => None,
+        },
+        _ => None,
+    }
+}
+
+/// Whether an instruction's call names this path from the root.
+fn is_path_of(path: &[u8], instruction: &Instruction) -> bool
+    ensures { result ≡ is_path_of path.now (global_path (instruction_of instruction.now)) }
+{
+    match global_path(instruction) {
+        None => false,
+        Some(named) => named == path,
+    }
+}
+
+/// Whether some instruction's call names this path from the root.
+fn names_path(path: &[u8], code: &[Instruction]) -> bool
+    ensures { result ≡ names_path path.now (code_of code.now) }
+{
+    match code {
+        [] => false,
+        [first, rest @ ..] => is_path_of(path, first) || names_path(path, rest),
+    }
+}
+
+/// Whether some program names this path from the root.
+fn is_named(path: &[u8], programs: &[NamedProgram]) -> bool
+    ensures { result ≡ list_any (λ (p : NamedProgramSeen). names_path path.now p.code) (programs_of programs.now) }
+{
+    match programs {
+        [] => false,
+        [first, rest @ ..] => names_path(path, first.program.code()) || is_named(path, rest),
+    }
+}
+
+/// Whether this path lies in some grant.
+fn is_granted(path: &[u8], grants: &[Grant]) -> bool
+    ensures { result ≡ list_any (λ (g : GrantSeen). lies_at (names_text g.path) path.now) (grants_of grants.now) }
+{
+    match grants {
+        [] => false,
+        [first, rest @ ..] => lies_at(first.path.names_text(), path) || is_granted(path, rest),
+    }
+}
+
+/// Whether a path lies in no grant of the task, and no call of its programs names it.
+pub(crate) fn is_foreign(task: &Task, path: &[u8]) -> bool
+    ensures { result ≡ is_foreign task.now path.now }
+{
+    !is_granted(path, task.grants()) && !is_named(path, task.programs())
+}

@@ -1,0 +1,402 @@
+//! How far a run has come in showing a record, and what each move makes of that.
+
+ghost use Rattle.std.specs.Prelude.{◌≡◌, ◌<◌, ◌++◌, ◌∷◌, [], IfOk, IfSome, OnOk, length, map, nat_eq, option_map, remove, true, List, Some};
+ghost use Rattle.std.specs.List.{flat_map, list_all, list_any, slice_get};
+ghost use Rattle.std.specs.Str.{bytes_eq};
+ghost use Rattle.rights.specs.Calls.{call_name};
+ghost use Rattle.rights.specs.Views.{call_of};
+ghost use Rattle.process.specs.State.{ProcessState};
+ghost use Rattle.simulator.specs.Views.{result_of};
+ghost use Rattle.records.specs.Calls.{Called, RecordEntry};
+ghost use Rattle.records.specs.EntryViews.{calls_seen, event_seen, made_seen, record_entry_seen};
+ghost use Rattle.records.specs.OperandViews.{operand_seen};
+ghost use Rattle.follow.specs.Standings.{after_shown, after_skip, after_step, first_standing, if_shown, if_skipped, is_counted, is_halt, is_limiting, is_outside, kept, new_namings, skipped};
+ghost use Rattle.follow.specs.Standings.{may_overtake, may_skip, next_entry, shows_call, shows_event};
+ghost use Rattle.follow.specs.Views.{entries_behind, if_stands, namings_seen, pairs_of, seen_of, setting_of, standing_of};
+
+use crate::given::{Names, call_fits};
+use crate::numbers::{
+    Naming, ProcessPair, add_first, is_injection, is_process, is_recorded, model_of,
+};
+use crate::outcomes::{
+    Seen, add_lost, add_made, any_unnamed, descriptor_count, is_of_mode, is_silent, same_outcome,
+};
+use crate::places::{Placing, in_task, is_foreign};
+use crate::transfers::{Past, transfer_in};
+use process::Process;
+use records::{Entry, Event, MadeCall, Operand};
+use rights::{Call, Memory};
+use simulator::LineResult;
+use std::alloc::Global;
+use task::Task;
+
+/// A task, the places of a record in it, the processes that stand for the record's, and whether the record has calls of capability
+/// mode.
+#[derive(Clone, Copy)]
+pub(crate) struct Setting<'a> {
+    pub task: &'a Task,
+    pub placings: &'a [Placing],
+    pub pairs: &'a [ProcessPair],
+    pub limited: bool,
+}
+
+/// The calls and ends that are left, what the record's numbers stand for, and what was shown.
+#[derive(Drop)]
+pub(crate) struct Standing<'c> {
+    pub left: Vec<&'c Entry>,
+    pub namings: Vec<Naming>,
+    pub history: Vec<Past>,
+}
+
+/// Whether an event is a call of capability mode.
+fn is_limiting(event: &Event) -> bool
+    ensures { result ≡ is_limiting (event_seen event.now) }
+{
+    match event {
+        Event::Called(made) => is_of_mode(made.call),
+        Event::Ended | Event::Omitted(_) => false,
+    }
+}
+
+/// Whether a record has a call of capability mode.
+pub(crate) fn has_limiting(entries: &[Entry]) -> bool
+    ensures { result ≡ list_any (λ (entry : RecordEntry). is_limiting entry.event) (calls_seen entries.now) }
+{
+    for entry in entries {
+        if is_limiting(&entry.event) {
+            return true;
+        }
+    }
+    false
+}
+
+/// Whether an event is a call or an end, and not left out.
+fn is_counted(event: &Event) -> bool
+    ensures { result ≡ is_counted (event_seen event.now) }
+{
+    match event {
+        Event::Called(_) | Event::Ended => true,
+        Event::Omitted(_) => false,
+    }
+}
+
+/// Adds an entry, if it is a call or an end.
+fn add_counted<'c>(left: &mut Vec<&'c Entry>, entry: &'c Entry) -> Result<(), Memory>
+    ensures { OnOk result (entries_behind left.new.items ≡ entries_behind left.old.items ++ kept (record_entry_seen entry.now)) }
+{
+    if is_counted(&entry.event) {
+        left.push(entry)?;
+    }
+    Ok(())
+}
+
+/// The calls and ends of a record.
+fn counted<'c>(alloc: Global, entries: &'c [Entry]) -> Result<Vec<&'c Entry>, Memory>
+    ensures { IfOk result (λ left. entries_behind left.items ≡ flat_map kept (calls_seen entries.now)) }
+{
+    let mut left = Vec::new(alloc);
+    for entry in entries {
+        add_counted(&mut left, entry)?;
+    }
+    Ok(left)
+}
+
+/// Whether an entry may come before one that stands before it.
+fn may_overtake(entry: &Entry, other: &Entry) -> bool
+    ensures { result ≡ may_overtake (record_entry_seen entry.now) (record_entry_seen other.now) }
+{
+    !(other.process == entry.process) && entry.span.first <= other.span.last
+}
+
+/// Whether an entry may come before all of these.
+fn may_come(entry: &Entry, others: &[&Entry]) -> bool
+    ensures { result ≡ list_all (may_overtake (record_entry_seen entry.now)) (entries_behind others.now) }
+{
+    for other in others {
+        if !may_overtake(entry, other) {
+            return false;
+        }
+    }
+    true
+}
+
+/// The entry of this place among those that are left, if it may come next.
+pub(crate) fn next_entry<'c>(left: &[&'c Entry], at: usize) -> Option<&'c Entry>
+    ensures entry { option_map (λ entry. record_entry_seen entry.now) result ≡ next_entry (entries_behind left.now) at }
+    ensures there { IfSome result (λ entry. at < length left.now) }
+{
+    let entry = left.get(at)?;
+    if may_come(entry, &left[..at]) {
+        Some(*entry)
+    } else {
+        None
+    }
+}
+
+/// Whether it is the same call.
+pub(crate) fn same_call(call: Call, other: Call) -> bool
+    ensures { result ≡ bytes_eq (call_name (call_of call)) (call_name (call_of other)) }
+{
+    call.name().as_bytes() == other.name().as_bytes()
+}
+
+/// Whether a step shows a call of the record: it is the same call, given the same, and comes to the same.
+fn shows_call(
+    setting: &Setting<'_>,
+    namings: &[Naming],
+    process: usize,
+    seen: &Seen<'_>,
+    made: &MadeCall,
+) -> bool
+    ensures { result ≡ shows_call (setting_of setting.now) (namings_seen namings.now) process (seen_of seen.now) (made_seen made.now) (seen_of seen.now).call }
+{
+    let Some(call) = seen.call else {
+        return false;
+    };
+    let names = Names {
+        placings: setting.placings,
+        namings,
+        process,
+    };
+    same_call(made.call, call.call())
+        && call_fits(&names, &seen.registers, call, &made.operands)
+        && same_outcome(setting.pairs, made.call, made.outcome, seen.outcome)
+}
+
+/// Whether it ended its process.
+fn is_halt(outcome: LineResult) -> bool
+    ensures { result ≡ is_halt (result_of outcome) }
+{
+    matches!(outcome, LineResult::Halted)
+}
+
+/// Whether a step shows what happened in the record.
+fn shows_event(
+    setting: &Setting<'_>,
+    namings: &[Naming],
+    process: usize,
+    seen: &Seen<'_>,
+    event: &Event,
+) -> bool
+    ensures { result ≡ shows_event (setting_of setting.now) (namings_seen namings.now) process (seen_of seen.now) (event_seen event.now) }
+{
+    match event {
+        Event::Called(made) => shows_call(setting, namings, process, seen, made),
+        Event::Ended => is_halt(seen.outcome),
+        Event::Omitted(_) => false,
+    }
+}
+
+/// Whether a call may be skipped, as far as what it was given goes.
+fn may_skip(
+    alloc: Global,
+    setting: &Setting<'_>,
+    namings: &[Naming],
+    process: usize,
+    made: &MadeCall,
+) -> Result<bool, Memory>
+    ensures { IfOk result (λ may. may ≡ may_skip (setting_of setting.now) (namings_seen namings.now) process (made_seen made.now) (map operand_seen made.now.operands.items)) }
+{
+    if let [Operand::Path(path), ..] = made.operands.as_slice() {
+        let text = in_task(setting.placings, path).text(alloc)?;
+        return Ok(is_foreign(setting.task, &text));
+    }
+    Ok(any_unnamed(
+        namings,
+        process,
+        descriptor_count(made.call),
+        &made.operands,
+    ))
+}
+
+/// Whether a process was made and isn't in capability mode.
+fn is_outside(processes: &[Process], process: usize) -> bool
+    ensures { result ≡ is_outside (slice_get processes.now process) }
+{
+    match processes.get(process) {
+        None => false,
+        Some(process) => !process.mode(),
+    }
+}
+
+impl<'c> Standing<'c> {
+    /// All calls are left. Where some process stands for two, or two for one, there is none.
+    pub(crate) fn first(
+        alloc: Global,
+        task: &Task,
+        pairs: &[ProcessPair],
+        entries: &'c [Entry],
+    ) -> Result<Option<Standing<'c>>, Memory>
+        ensures { IfOk result (λ standing. option_map standing_of standing ≡ first_standing task.now (pairs_of pairs.now) (calls_seen entries.now)) }
+    {
+        if !is_injection(pairs) {
+            return Ok(None);
+        }
+        let left = counted(alloc, entries)?;
+        let mut namings = Vec::new(alloc);
+        add_first(&mut namings, task.starts())?;
+        Ok(Some(Standing {
+            left,
+            namings,
+            history: Vec::new(alloc),
+        }))
+    }
+
+    /// The same once more.
+    pub(crate) fn copy(&self, alloc: Global) -> Result<Standing<'c>, Memory>
+        ensures { IfOk result (λ copy. standing_of copy ≡ standing_of self.now) }
+    {
+        Ok(Standing {
+            left: Vec::from_slice(alloc, &self.left)?,
+            namings: Vec::from_slice(alloc, &self.namings)?,
+            history: Vec::from_slice(alloc, &self.history)?,
+        })
+    }
+
+    /// Whether all is shown.
+    pub(crate) fn is_at_end(&self) -> bool
+        ensures { result ≡ nat_eq (length (standing_of self.now).left) 0 }
+    {
+        self.left.is_empty()
+    }
+}
+
+/// Takes out the entry of a place.
+fn take_out(left: &mut Vec<&Entry>, at: usize)
+    requires { at < length left.old.items }
+    ensures { entries_behind left.new.items ≡ remove (entries_behind left.old.items) at }
+{
+    left.remove(at);
+}
+
+/// Adds what an event makes or frees that was shown by a step.
+fn add_new(
+    alloc: Global,
+    namings: &mut Vec<Naming>,
+    process: usize,
+    seen: &Seen<'_>,
+    event: &Event,
+) -> Result<(), Memory>
+    ensures { OnOk result (namings_seen namings.new.items ≡ namings_seen namings.old.items
+        ++ new_namings (namings_seen namings.old.items) process (seen_of seen.now) (event_seen event.now)) }
+{
+    match event {
+        Event::Called(made) => add_made(alloc, namings, process, made, seen),
+        Event::Ended | Event::Omitted(_) => Ok(()),
+    }
+}
+
+/// Notes that a step shows the entry of this place.
+fn show(
+    alloc: Global,
+    setting: &Setting<'_>,
+    standing: &mut Standing<'_>,
+    process: usize,
+    seen: &Seen<'_>,
+    at: usize,
+    event: &Event,
+) -> Result<(), Memory>
+    requires { at < length standing.old.left.items }
+    ensures { OnOk result (standing_of standing.new ≡ after_shown (setting_of setting.now) (standing_of standing.old) process (seen_of seen.now) at (event_seen event.now)) }
+{
+    add_new(alloc, &mut standing.namings, process, seen, event)?;
+    standing.history.push(Past {
+        process,
+        transfer: transfer_in(&seen.registers, seen.call, seen.outcome),
+    })?;
+    take_out(&mut standing.left, at);
+    Ok(())
+}
+
+/// What a step makes of where a run stands that is to show the entry of a place: nothing is told where it doesn't.
+fn after_shown(
+    alloc: Global,
+    setting: &Setting<'_>,
+    standing: &mut Standing<'_>,
+    process: usize,
+    seen: &Seen<'_>,
+    at: usize,
+) -> Result<bool, Memory>
+    ensures { IfOk result (λ is. if_stands is standing.new
+        ≡ after_step (setting_of setting.now) (standing_of standing.old) process (Some (seen_of seen.now)) (Some at)) }
+{
+    let Some(entry) = next_entry(&standing.left, at) else {
+        return Ok(false);
+    };
+    if is_process(setting.pairs, entry.process, process)
+        && shows_event(setting, &standing.namings, process, seen, &entry.event)
+    {
+        show(alloc, setting, standing, process, seen, at, &entry.event)?;
+        return Ok(true);
+    }
+    Ok(false)
+}
+
+/// What a step makes of where a run stands. Whether the step may be is told.
+pub(crate) fn after_step(
+    alloc: Global,
+    setting: &Setting<'_>,
+    standing: &mut Standing<'_>,
+    process: usize,
+    seen: Option<&Seen<'_>>,
+    shows: Option<usize>,
+) -> Result<bool, Memory>
+    ensures { IfOk result (λ is. if_stands is standing.new
+        ≡ after_step (setting_of setting.now) (standing_of standing.old) process (option_map (λ s. seen_of s.now) seen.entry) shows) }
+{
+    let Some(seen) = seen else {
+        return Ok(shows.is_none());
+    };
+    match shows {
+        Some(at) => after_shown(alloc, setting, standing, process, seen, at),
+        None => Ok(
+            !is_recorded(setting.pairs, process)
+                || is_silent(setting.limited, &standing.history, process, seen),
+        ),
+    }
+}
+
+/// Notes that the call of this place is skipped, if it may be.
+fn skip(
+    alloc: Global,
+    setting: &Setting<'_>,
+    standing: &mut Standing<'_>,
+    process: usize,
+    at: usize,
+    made: &MadeCall,
+) -> Result<bool, Memory>
+    requires { at < length standing.old.left.items }
+    ensures { IfOk result (λ is. if_stands is standing.new ≡ skipped (setting_of setting.now) (standing_of standing.old) at process (made_seen made.now)) }
+{
+    if !may_skip(alloc, setting, &standing.namings, process, made)? {
+        return Ok(false);
+    }
+    add_lost(&mut standing.namings, process, made)?;
+    take_out(&mut standing.left, at);
+    Ok(true)
+}
+
+/// What a skip makes of where a run stands, with these processes. Whether it may be is told.
+pub(crate) fn after_skip(
+    alloc: Global,
+    setting: &Setting<'_>,
+    standing: &mut Standing<'_>,
+    processes: &[Process],
+    at: usize,
+) -> Result<bool, Memory>
+    ensures { IfOk result (λ is. if_stands is standing.new ≡ after_skip (setting_of setting.now) (standing_of standing.old) processes.now at) }
+{
+    let Some(entry) = next_entry(&standing.left, at) else {
+        return Ok(false);
+    };
+    let Event::Called(made) = &entry.event else {
+        return Ok(false);
+    };
+    let Some(process) = model_of(setting.pairs, entry.process) else {
+        return Ok(false);
+    };
+    if !is_outside(processes, process) {
+        return Ok(false);
+    }
+    skip(alloc, setting, standing, process, at, made)
+}
