@@ -5,8 +5,8 @@ use Rattle.std.specs.List.{list_any, slice_get}
 use Rattle.rights.specs.Errors.{Cause, CapMode, BadDescriptor, MissingRight, Kind, Escape, Path, Access, Full, Refused}
 use Rattle.process.specs.State.{ProcessState}
 use Rattle.kernel.specs.World.{World, Choice, IsFresh}
-use Rattle.kernel.specs.Answers.{Event, Effect, AreEvents}
-use Rattle.kernel.specs.Hostile.{Act, Own, Does, about, step_as}
+use Rattle.kernel.specs.Answers.{Effect, AreEvents}
+use Rattle.kernel.specs.Hostile.{Own, Does, about, step_as}
 use Rattle.kernel.specs.Steps.{LineResult, No_call, Halted, Value, Failed, Waiting, Walks_on, Ended, Acted, Programs, step}
 use Rattle.kernel.specs.WellFormed.{ArePrograms, IsWellFormed}
 use Rattle.kernel.proofs.Hostile.{about_well_formed, files_about}

@@ -1,5 +1,5 @@
 -- Runs whose last step breaks something. (own)
-use Rattle.std.specs.Prelude.{◌≡◌, ◌<◌, ◌&&◌, ℕ, Bool, true, false, List, [], ◌∷◌, length, map, Option, Some, None}
+use Rattle.std.specs.Prelude.{◌≡◌, ◌<◌, ℕ, Bool, true, false, List, [], ◌∷◌, length, map, Option, Some, None}
 use Rattle.std.specs.List.{list_all, remove, slice_get}
 use Rattle.std.specs.Option.{option_map}
 use Rattle.kernel.specs.World.{World, Choice, IsFresh}

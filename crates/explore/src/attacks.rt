@@ -124,35 +124,53 @@ fn add_call(deeds: &mut Vec<Deed>, alloc: Global, call: Syscall) -> Result<(), M
 }
 
 /// What may be tried of an end of a socket pair.
-fn on_ends(alloc: Global, descriptor: Operand, bytes: &[u8]) -> Result<Vec<Deed>, Memory> {
+fn on_ends(alloc: Global, number: u32, bytes: &[u8]) -> Result<Vec<Deed>, Memory> {
     let mut deeds = Vec::new(alloc);
-    add_call(&mut deeds, alloc, Syscall::Read { descriptor })?;
-    add_call(&mut deeds, alloc, Syscall::Recvfd { descriptor })?;
+    let read = Syscall::Read {
+        descriptor: Operand::Number(number),
+    };
+    add_call(&mut deeds, alloc, read)?;
+    let receive = Syscall::Recvfd {
+        descriptor: Operand::Number(number),
+    };
+    add_call(&mut deeds, alloc, receive)?;
     for byte in bytes {
-        let value = Operand::Number(u32::from(*byte));
-        add_call(&mut deeds, alloc, Syscall::Write { descriptor, value })?;
+        let write = Syscall::Write {
+            descriptor: Operand::Number(number),
+            value: Operand::Number(u32::from(*byte)),
+        };
+        add_call(&mut deeds, alloc, write)?;
     }
-    for number in 0..MAX_DESCRIPTORS as u32 {
-        let call = Syscall::Sendfd {
-            descriptor,
-            sent: Operand::Number(number),
+    for sent in 0..MAX_DESCRIPTORS as u32 {
+        let send = Syscall::Sendfd {
+            descriptor: Operand::Number(number),
+            sent: Operand::Number(sent),
             value: Operand::Number(0),
         };
-        add_call(&mut deeds, alloc, call)?;
+        add_call(&mut deeds, alloc, send)?;
     }
     Ok(deeds)
 }
 
+/// Adds a limit.
+fn add_limit(
+    deeds: &mut Vec<Deed>,
+    alloc: Global,
+    number: u32,
+    rights: Rights,
+) -> Result<(), Memory> {
+    let limit = Syscall::CapRightsLimit {
+        descriptor: Operand::Number(number),
+        rights,
+    };
+    add_call(deeds, alloc, limit)
+}
+
 /// What may be tried of a limit: that it leaves nothing, or writing alone.
-fn limits(alloc: Global, descriptor: Operand) -> Result<Vec<Deed>, Memory> {
+fn limits(alloc: Global, number: u32) -> Result<Vec<Deed>, Memory> {
     let mut deeds = Vec::new(alloc);
-    for rights in [Rights::empty(), Rights::WRITE] {
-        add_call(
-            &mut deeds,
-            alloc,
-            Syscall::CapRightsLimit { descriptor, rights },
-        )?;
-    }
+    add_limit(&mut deeds, alloc, number, Rights::empty())?;
+    add_limit(&mut deeds, alloc, number, Rights::WRITE)?;
     Ok(deeds)
 }
 
@@ -160,94 +178,132 @@ fn limits(alloc: Global, descriptor: Operand) -> Result<Vec<Deed>, Memory> {
 fn add_open(
     deeds: &mut Vec<Deed>,
     alloc: Global,
-    descriptor: Operand,
+    number: u32,
     name: &[u8],
     flags: Option<OpenFlags>,
 ) -> Result<(), Memory> {
     if let (Some(path), Some(flags)) = (path_of(alloc, name)?, flags) {
-        let call = Syscall::Openat {
-            descriptor,
+        let open = Syscall::Openat {
+            descriptor: Operand::Number(number),
             path,
             flags,
         };
-        add_call(deeds, alloc, call)?;
+        add_call(deeds, alloc, open)?;
     }
     Ok(())
 }
 
-/// Adds what may be tried of a name beneath a directory, but for moves.
-fn add_named(
+/// Adds the removal of a name, as a directory or not.
+fn add_removal(
     deeds: &mut Vec<Deed>,
     alloc: Global,
-    descriptor: Operand,
+    number: u32,
     name: &[u8],
+    directory: bool,
 ) -> Result<(), Memory> {
-    let reading = OpenFlags::new(true, false, false, false, false);
-    add_open(deeds, alloc, descriptor, name, reading)?;
-    let appending = OpenFlags::new(false, true, true, false, false);
-    add_open(deeds, alloc, descriptor, name, appending)?;
-    let emptying = OpenFlags::new(false, true, false, false, true);
-    add_open(deeds, alloc, descriptor, name, emptying)?;
     if let Some(path) = path_of(alloc, name)? {
-        add_call(deeds, alloc, Syscall::Fstatat { descriptor, path })?;
-    }
-    for directory in [false, true] {
-        if let Some(path) = path_of(alloc, name)? {
-            let call = Syscall::Unlinkat {
-                descriptor,
-                path,
-                directory,
-            };
-            add_call(deeds, alloc, call)?;
-        }
+        let unlink = Syscall::Unlinkat {
+            descriptor: Operand::Number(number),
+            path,
+            directory,
+        };
+        add_call(deeds, alloc, unlink)?;
     }
     Ok(())
 }
 
-/// Adds the moves of a name to a new one, beneath each directory that may be open.
-fn add_moves(
+/// Adds a look at a name.
+fn add_look(deeds: &mut Vec<Deed>, alloc: Global, number: u32, name: &[u8]) -> Result<(), Memory> {
+    if let Some(path) = path_of(alloc, name)? {
+        let look = Syscall::Fstatat {
+            descriptor: Operand::Number(number),
+            path,
+        };
+        add_call(deeds, alloc, look)?;
+    }
+    Ok(())
+}
+
+/// Adds the move of a name to a new one, beneath the directory of another number.
+fn add_move(
     deeds: &mut Vec<Deed>,
     alloc: Global,
-    descriptor: Operand,
+    number: u32,
     name: &[u8],
+    target: u32,
 ) -> Result<(), Memory> {
-    for number in 0..MAX_DESCRIPTORS as u32 {
-        let target = Operand::Number(number);
-        if let (Some(path), Some(new_path)) = (path_of(alloc, name)?, path_of(alloc, NEW_NAME)?) {
-            let call = Syscall::Renameat {
-                descriptor,
-                path,
-                target,
-                new_path,
-            };
-            add_call(deeds, alloc, call)?;
-        }
+    if let (Some(path), Some(new_path)) = (path_of(alloc, name)?, path_of(alloc, NEW_NAME)?) {
+        let rename = Syscall::Renameat {
+            descriptor: Operand::Number(number),
+            path,
+            target: Operand::Number(target),
+            new_path,
+        };
+        add_call(deeds, alloc, rename)?;
+    }
+    Ok(())
+}
+
+/// Adds what may be tried of a name beneath a directory.
+fn add_named(deeds: &mut Vec<Deed>, alloc: Global, number: u32, name: &[u8]) -> Result<(), Memory> {
+    let reading = OpenFlags::new(true, false, false, false, false);
+    add_open(deeds, alloc, number, name, reading)?;
+    let appending = OpenFlags::new(false, true, true, false, false);
+    add_open(deeds, alloc, number, name, appending)?;
+    let emptying = OpenFlags::new(false, true, false, false, true);
+    add_open(deeds, alloc, number, name, emptying)?;
+    add_look(deeds, alloc, number, name)?;
+    add_removal(deeds, alloc, number, name, false)?;
+    add_removal(deeds, alloc, number, name, true)?;
+    for target in 0..MAX_DESCRIPTORS as u32 {
+        add_move(deeds, alloc, number, name, target)?;
     }
     Ok(())
 }
 
 /// Adds what makes a new name beneath a directory.
-fn add_new(deeds: &mut Vec<Deed>, alloc: Global, descriptor: Operand) -> Result<(), Memory> {
+fn add_new(deeds: &mut Vec<Deed>, alloc: Global, number: u32) -> Result<(), Memory> {
     let creating = OpenFlags::new(false, true, true, true, false);
-    add_open(deeds, alloc, descriptor, NEW_NAME, creating)?;
+    add_open(deeds, alloc, number, NEW_NAME, creating)?;
     if let Some(path) = path_of(alloc, NEW_NAME)? {
-        add_call(deeds, alloc, Syscall::Mkdirat { descriptor, path })?;
+        let make = Syscall::Mkdirat {
+            descriptor: Operand::Number(number),
+            path,
+        };
+        add_call(deeds, alloc, make)?;
     }
     Ok(())
 }
 
+/// Adds what may be tried of a file or a directory without a name.
+fn add_plain(deeds: &mut Vec<Deed>, alloc: Global, number: u32) -> Result<(), Memory> {
+    let read = Syscall::Read {
+        descriptor: Operand::Number(number),
+    };
+    add_call(deeds, alloc, read)?;
+    let look = Syscall::Fstat {
+        descriptor: Operand::Number(number),
+    };
+    add_call(deeds, alloc, look)?;
+    let write = Syscall::Write {
+        descriptor: Operand::Number(number),
+        value: Operand::Number(0),
+    };
+    add_call(deeds, alloc, write)?;
+    let cut = Syscall::Ftruncate {
+        descriptor: Operand::Number(number),
+        len: Operand::Number(0),
+    };
+    add_call(deeds, alloc, cut)
+}
+
 /// What may be tried of a file or a directory.
-fn on_nodes(alloc: Global, descriptor: Operand, names: &[Vec<u8>]) -> Result<Vec<Deed>, Memory> {
+fn on_nodes(alloc: Global, number: u32, names: &[Vec<u8>]) -> Result<Vec<Deed>, Memory> {
     let mut deeds = Vec::new(alloc);
-    let (value, len) = (Operand::Number(0), Operand::Number(0));
-    add_call(&mut deeds, alloc, Syscall::Read { descriptor })?;
-    add_call(&mut deeds, alloc, Syscall::Fstat { descriptor })?;
-    add_call(&mut deeds, alloc, Syscall::Write { descriptor, value })?;
-    add_call(&mut deeds, alloc, Syscall::Ftruncate { descriptor, len })?;
-    add_new(&mut deeds, alloc, descriptor)?;
+    add_plain(&mut deeds, alloc, number)?;
+    add_new(&mut deeds, alloc, number)?;
     for name in names {
-        add_named(&mut deeds, alloc, descriptor, name)?;
-        add_moves(&mut deeds, alloc, descriptor, name)?;
+        add_named(&mut deeds, alloc, number, name)?;
     }
     Ok(deeds)
 }
@@ -260,11 +316,10 @@ impl Deeds {
             let names = names_to_try(alloc, task)?;
             let bytes = bytes_to_try(alloc, task)?;
             for number in 0..MAX_DESCRIPTORS as u32 {
-                let descriptor = Operand::Number(number);
                 by_number.push(ByNumber {
-                    on_nodes: on_nodes(alloc, descriptor, &names)?,
-                    on_ends: on_ends(alloc, descriptor, &bytes)?,
-                    limits: limits(alloc, descriptor)?,
+                    on_nodes: on_nodes(alloc, number, &names)?,
+                    on_ends: on_ends(alloc, number, &bytes)?,
+                    limits: limits(alloc, number)?,
                 })?;
             }
         }

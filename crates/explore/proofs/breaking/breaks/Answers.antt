@@ -1,8 +1,7 @@
-use Rattle.std.proofs.Common.{◌≡◌, ◌+◌, ◌<◌, ◌≤◌, true, List, [], ◌∷◌, map, drop, ◌∙◌, subst, sym, false, option_map}
+use Rattle.std.proofs.Common.{◌≡◌, ◌+◌, ◌<◌, ◌≤◌, true, List, [], ◌∷◌, map, drop, ◌∙◌, subst, sym, option_map}
 use Rattle.std.specs.List.{slice_index_or}
 use Rattle.std.proofs.Math.ListN.{length-map}
 use Rattle.std.proofs.lemmas.List.{get_or-map, take_all}
-use Rattle.syscalls.specs.Views.{event_of}
 use Rattle.kernel.specs.Answers.{Event, IsEvent, AreEvents}
 use Rattle.kernel.specs.Hostile.{Act, IsAct}
 use Rattle.kernel.specs.World.{World}

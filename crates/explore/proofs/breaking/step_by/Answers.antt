@@ -1,4 +1,3 @@
-use Rattle.std.proofs.Common.{◌≡◌, true, false}
 use Rattle.task.specs.Plans.{programs_of_plan}
 use Rattle.simulator.specs.Machines.{machine_world}
 use Rattle.explore.proofs.MayDo.{may-stand}

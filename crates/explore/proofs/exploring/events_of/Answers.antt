@@ -1,8 +1,6 @@
-use Rattle.std.proofs.Common.{◌≡◌, ◌+◌, ◌++◌, [], ◌∷◌, map, take, ap, sym, subst, ◌∙◌}
-
+use Rattle.std.proofs.Common.{◌++◌, [], ◌∷◌, map, take, ap, sym, ◌∙◌}
 use Rattle.std.proofs.lemmas.List.{map-append, take_more}
 use Rattle.syscalls.specs.Views.{event_of}
-use Rattle.syscalls.specs.declared.events.Event.{Event as EventCode}
 use Rattle.explore.specs.declared.attacks.Move.{Move as MoveCode}
 use Rattle.explore.specs.MoveViews.{event_at}
 use Rattle.explore.proofs.exploring.events_of.Goals as goal
