@@ -13,4 +13,5 @@ pub mod Samples
 pub mod Rows
 pub mod PartLaws
 pub mod Limits
+pub mod AccountLaws
 pub mod Within

@@ -99,13 +99,13 @@ few-bits (r ∷ rows) words = go (has_word r.name words) (few-bits rows words)
     go true rest = omega (arith, rest)
     go false rest = omega (arith, rest)
 
-rights-fit : (word : List ℕ) → nat_lt (set_of_list right_rows word) (2 ^ 14) ≡ true
+pub rights_fit : (word : List ℕ) → nat_lt (set_of_list right_rows word) (2 ^ 14) ≡ true
 unfolding set_of_list
-rights-fit word = let few = few-bits right_rows (parts 44 word) in lt-ltb (bits_named right_rows (parts 44 word)) (2 ^ 14) (omega (arith, few))
+rights_fit word = let few = few-bits right_rows (parts 44 word) in lt-ltb (bits_named right_rows (parts 44 word)) (2 ^ 14) (omega (arith, few))
 
-commands-fit : (word : List ℕ) → nat_lt (set_of_list command_rows word) (2 ^ 2) ≡ true
+pub commands_fit : (word : List ℕ) → nat_lt (set_of_list command_rows word) (2 ^ 2) ≡ true
 unfolding set_of_list
-commands-fit word = let few = few-bits command_rows (parts 44 word) in lt-ltb (bits_named command_rows (parts 44 word)) (2 ^ 2) (omega (arith, few))
+commands_fit word = let few = few-bits command_rows (parts 44 word) in lt-ltb (bits_named command_rows (parts 44 word)) (2 ^ 2) (omega (arith, few))
 
 -- bytes in quotes
 plain-small : (b : ℕ) → is_plain b ≡ true → nat_lt b 256 ≡ true
@@ -185,11 +185,11 @@ operand-fits Open_flags words field is =
 operand-fits A_right_set words field is =
     let word = word-is (λ word. Some (Rights (set_of_list right_rows word))) words field is in
     let same = some-is word.1 in
-    (ap (is_of_kind A_right_set) (sym same), ap is_real_operand (sym same) ∙ rights-fit word.0)
+    (ap (is_of_kind A_right_set) (sym same), ap is_real_operand (sym same) ∙ rights_fit word.0)
 operand-fits A_command_set words field is =
     let word = word-is (λ word. Some (Commands (set_of_list command_rows word))) words field is in
     let same = some-is word.1 in
-    (ap (is_of_kind A_command_set) (sym same), ap is_real_operand (sym same) ∙ commands-fit word.0)
+    (ap (is_of_kind A_command_set) (sym same), ap is_real_operand (sym same) ∙ commands_fit word.0)
 operand-fits A_choice words field is =
     let same = ap (λ (f : RealOperand × Words). f.0) (some-is is) in
     (ap (is_of_kind A_choice) (sym same), ap is_real_operand (sym same))

@@ -1,12 +1,13 @@
 -- A quoted text is read as its bytes.
 use Rattle.std.proofs.Common.{◌≡◌, ℕ, ◌/◌, ◌%◌, ◌^◌, ◌<◌, Bool, true, false, not, cond, List, [], ◌∷◌, ◌++◌, refl, ap, sym, ◌∙◌, append_assoc, append-nil, ltb-true, arith}
-use Rattle.std.specs.Prelude.{◌==◌, ◌&&◌, nat_le, nat_lt, Some}
+use Rattle.std.proofs.Common.{◌+◌, length, drop, get_or, add-one, drop-cons}
+use Rattle.std.specs.Prelude.{◌==◌, ◌&&◌, nat_le, nat_lt, Option, Some}
 use Rattle.std.specs.List.{flat_map}
 use Rattle.std.proofs.lemmas.Bool.{and_parts}
 use Rattle.texts.specs.Hex.{hex_digit, hex_text}
 use Rattle.texts.proofs.HexTexts.{hex-back}
 use Rattle.records.specs.Calls.{is_text}
-use Rattle.records.specs.Quoted.{Within, Escaped, Halfway, Behind, Leads, Gives, Stops, byte_text, effect, given_byte, going, is_plain, quoted, unquoted, unquoted_from}
+use Rattle.records.specs.Quoted.{QuoteEffect, QuoteProgress, Within, Escaped, Halfway, Behind, Leads, Gives, Stops, byte_text, effect, given_byte, going, is_plain, quoted, unquoted, unquoted_from}
 
 -- a plain byte gives itself
 plain-effect : (b : ℕ) → is_plain b ≡ true → effect Within b ≡ Gives b
@@ -54,3 +55,12 @@ bytes-back (b ∷ text) rest bytes is =
 pub quoted-back : (text : List ℕ) → is_text text ≡ true → unquoted (quoted text) ≡ Some text
 unfolding quoted unquoted effect
 quoted-back text is = bytes-back text (34 ∷ []) [] is
+
+-- a step of the reading, by what the next byte does
+pub byte-goes : (word : List ℕ) (i : ℕ) (bytes next : List ℕ) (progress after : QuoteProgress) (f : QuoteEffect) (whole : Option (List ℕ)) → i < length word
+    → unquoted_from (drop i word) bytes progress ≡ whole → effect progress (get_or word i 0) ≡ f
+    → going f bytes (unquoted_from (drop (i + 1) word)) ≡ unquoted_from (drop (i + 1) word) next after
+    → unquoted_from (drop (i + 1) word) next after ≡ whole
+byte-goes word i bytes next progress after f whole within before is goes =
+    let left = drop-cons word i 0 within ∙ ap (λ n. get_or word i 0 ∷ drop n word) (sym (add-one i)) in
+    sym goes ∙ sym (ap (λ e. going e bytes (unquoted_from (drop (i + 1) word))) is) ∙ sym (ap (λ l. unquoted_from l bytes progress) left) ∙ before

@@ -14,4 +14,4 @@ pub mod BindingViews
 pub mod FaultViews
 pub mod CallsViews
 pub mod Accounts
-pub mod LogViews
+pub mod GivenViews

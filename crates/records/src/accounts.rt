@@ -1,6 +1,6 @@
 //! Which lines of a record its entries account for.
 
-ghost use Rattle.std.specs.Prelude.{◌≡◌, ◌+◌, ◌<◌, ◌^◌, ◌&&◌, ◌||◌, ◌==◌, ℕ, IfOk, OnOk, false, length, nat_lt, slice_index_or, vec_len};
+ghost use Rattle.std.specs.Prelude.{◌≡◌, ◌+◌, ◌<◌, ◌^◌, ◌&&◌, ◌||◌, ◌==◌, ℕ, IfOk, OnOk, false, length, nat_lt, slice_index_or};
 ghost use Rattle.std.proofs.Math.Bool.{not};
 ghost use Rattle.records.specs.Accounts.{is_end_of, is_in_lists, is_line_of, ListTheOthers};
 ghost use Rattle.records.specs.EntryViews.{calls_seen};
@@ -54,19 +54,6 @@ fn mark(marks: &mut [bool], line: u32)
     }
 }
 
-/// Marks for so many lines and 0, none of them set.
-fn unmarked(alloc: Global, count: usize) -> Result<Vec<bool>, AllocError>
-    ensures long { IfOk result (λ marks. vec_len marks ≡ count + 1) }
-    ensures unset { IfOk result (λ marks. (k : ℕ) → slice_index_or marks.items k false ≡ false) }
-{
-    let mut marks = Vec::new(alloc);
-    marks.push(false)?;
-    for _ in 0..count {
-        marks.push(false)?;
-    }
-    Ok(marks)
-}
-
 /// Marks the lines in which calls begin or end, by their numbers.
 fn mark_ends(marks: &mut [bool], entries: &[Entry])
     ensures { (k : ℕ) → slice_index_or marks.new k false ≡ (slice_index_or marks.old k false || (is_end_of k (calls_seen entries.now) && nat_lt k (length marks.old))) }
@@ -77,40 +64,35 @@ fn mark_ends(marks: &mut [bool], entries: &[Entry])
     }
 }
 
-/// Marks for so many lines and 0, of which those are set in which calls begin or end.
+/// So many marks, of which those are set in whose lines calls begin or end.
 fn marked(alloc: Global, count: usize, entries: &[Entry]) -> Result<Vec<bool>, AllocError>
-    ensures { IfOk result (λ marks. (k : ℕ) → slice_index_or marks.items k false ≡ (is_end_of k (calls_seen entries.now) && nat_lt k (count + 1))) }
+    ensures { IfOk result (λ marks. (k : ℕ) → slice_index_or marks.items k false ≡ (is_end_of k (calls_seen entries.now) && nat_lt k count)) }
 {
-    let mut marks = unmarked(alloc, count)?;
+    let mut marks = vec![in alloc; false; count]?;
     mark_ends(&mut marks, entries);
     Ok(marks)
-}
-
-impl Accounts {
-    /// Takes a line of this number.
-    fn take(&mut self, number: u32, is_silent: bool, is_marked: bool) -> Result<(), AllocError>
-        ensures { OnOk result ((line : ℕ) → is_in_lists line self.new.misread.items self.new.silent.items
-            ≡ (is_in_lists line self.old.misread.items self.old.silent.items || (not is_marked && (number == line)))) }
-    {
-        if is_marked {
-            return Ok(());
-        }
-        if is_silent {
-            self.silent.push(number)?;
-        } else {
-            self.misread.push(number)?;
-        }
-        Ok(())
-    }
 }
 
 /// Whether a line is marked.
 fn is_marked(marks: &[bool], line: u32) -> bool
     ensures { result ≡ slice_index_or marks.now line false }
 {
-    match marks.get(line as usize) {
-        Some(mark) => *mark,
-        None => false,
+    let at = line as usize;
+    at < marks.len() && marks[at]
+}
+
+impl Accounts {
+    /// Lists a line of this number.
+    fn list(&mut self, number: u32, is_silent: bool) -> Result<(), AllocError>
+        ensures { OnOk result ((line : ℕ) → is_in_lists line self.new.misread.items self.new.silent.items
+            ≡ (is_in_lists line self.old.misread.items self.old.silent.items || (number == line))) }
+    {
+        if is_silent {
+            self.silent.push(number)?;
+        } else {
+            self.misread.push(number)?;
+        }
+        Ok(())
     }
 }
 
@@ -129,7 +111,9 @@ fn accounts_of(
     };
     for (index, line) in lines.iter().enumerate() {
         let number = line_number(index);
-        accounts.take(number, is_silent(line.told), is_marked(marks, number))?;
+        if !is_marked(marks, number) {
+            accounts.list(number, is_silent(line.told))?;
+        }
     }
     Ok(accounts)
 }
@@ -142,6 +126,6 @@ pub(crate) fn account(
 ) -> Result<Accounts, AllocError>
     ensures { IfOk result (λ accounts. ListTheOthers (length lines.now) (calls_seen entries.now) accounts.misread.items accounts.silent.items) }
 {
-    let marks = marked(alloc, lines.len(), entries)?;
+    let marks = marked(alloc, lines.len() + 1, entries)?;
     accounts_of(alloc, lines, &marks)
 }

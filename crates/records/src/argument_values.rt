@@ -4,7 +4,6 @@ ghost use Rattle.std.specs.Prelude.{◌≤◌, length};
 
 use crate::strace_results::note_end;
 use crate::strace_texts::{after, before, number, without_spaces};
-use std::alloc::{AllocError, Global};
 use texts::first_part;
 
 /// A descriptor as an argument tells it, with what is noted of it: an empty note where there is none.
@@ -12,6 +11,13 @@ use texts::first_part;
 pub(crate) struct Mention<'t> {
     pub number: u32,
     pub note: &'t [u8],
+}
+
+/// A descriptor that a text begins with, and what stands behind it.
+#[derive(Clone, Copy)]
+pub(crate) struct First<'t> {
+    pub mention: Mention<'t>,
+    pub behind: &'t [u8],
 }
 
 /// Where the digits end that a text begins with.
@@ -26,14 +32,13 @@ fn digits_end(text: &[u8]) -> usize
     text.len()
 }
 
-/// The note that a text begins with, without its brackets: an empty one where it begins with none.
-fn note_of(text: &[u8]) -> &[u8] {
+/// Where the note ends that a text begins with: at its beginning, where there is none.
+fn first_note_end(text: &[u8]) -> usize
+    ensures { result ≤ length text.now }
+{
     match text {
-        [b'<', ..] => {
-            let (note, _behind) = text.split_at(note_end(text));
-            inside(note)
-        }
-        _ => b"",
+        [b'<', ..] => note_end(text),
+        _ => 0,
     }
 }
 
@@ -45,35 +50,58 @@ pub(crate) fn inside(note: &[u8]) -> &[u8] {
 
 /// Whether a descriptor's number may end before this text.
 fn ends_number(text: &[u8]) -> bool {
-    match text {
-        [] | [b'<' | b']' | b',' | b' ', ..] => true,
-        _ => false,
+    matches!(text, [] | [b'<' | b']' | b'}' | b',' | b' ', ..])
+}
+
+/// The descriptor that a text begins with, if it begins with one.
+pub(crate) fn first_of(text: &[u8]) -> Option<First<'_>> {
+    let (digits, behind) = text.split_at(digits_end(text));
+    if !ends_number(behind) {
+        return None;
     }
+    let (note, behind) = behind.split_at(first_note_end(behind));
+    let mention = Mention {
+        number: number(digits)?,
+        note: inside(note),
+    };
+    Some(First { mention, behind })
 }
 
 /// The descriptor that an argument begins with.
 pub(crate) fn mention_of(argument: &[u8]) -> Option<Mention<'_>> {
-    let (digits, behind) = argument.split_at(digits_end(argument));
-    if !ends_number(behind) {
+    Some(first_of(argument)?.mention)
+}
+
+/// The first descriptor of those in brackets, such as `[3</a>, 4]` or `{3,4}`, that a text begins with.
+pub(crate) fn first_listed(text: &[u8]) -> Option<First<'_>> {
+    match text {
+        [b'[' | b'{', rest @ ..] => first_of(without_spaces(rest)),
+        _ => None,
+    }
+}
+
+/// The next descriptor of a list, of which this text stands behind the one before.
+pub(crate) fn next_listed(behind: &[u8]) -> Option<First<'_>> {
+    if let [b']' | b'}', ..] = behind {
         return None;
     }
-    Some(Mention {
-        number: number(digits)?,
-        note: note_of(behind),
-    })
+    let (_rest, next) = first_part(behind, b',');
+    first_of(without_spaces(next?))
 }
 
 /// The note of `AT_FDCWD`, which may be empty, if the argument is that.
 pub(crate) fn here_note(argument: &[u8]) -> Option<&[u8]> {
     let behind = after(argument, b"AT_FDCWD")?;
-    Some(note_of(behind))
+    let (note, _behind) = behind.split_at(first_note_end(behind));
+    Some(inside(note))
 }
 
 /// What stands behind the first place at which a text has these bytes.
 pub(crate) fn behind<'t>(text: &'t [u8], bytes: &[u8]) -> Option<&'t [u8]> {
     for at in 0..text.len() {
-        if let Some(rest) = after(&text[at..], bytes) {
-            return Some(rest);
+        let rest = after(&text[at..], bytes);
+        if rest.is_some() {
+            return rest;
         }
     }
     None
@@ -109,10 +137,10 @@ const CLOSES_ON_EXEC: [&str; 7] = [
     "MFD_CLOEXEC",
 ];
 
-/// Whether an argument has a flag by which a descriptor is closed where the process goes on as another program.
-pub(crate) fn closes_on_exec(argument: &[u8]) -> bool {
+/// Whether arguments have a flag by which a descriptor is closed where the process goes on as another program.
+pub(crate) fn closes_on_exec(arguments: &[u8]) -> bool {
     for flag in &CLOSES_ON_EXEC {
-        if has_word(argument, flag.as_bytes()) {
+        if has_word(arguments, flag.as_bytes()) {
             return true;
         }
     }
@@ -137,41 +165,7 @@ pub(crate) fn is_device(note: &[u8]) -> bool {
 
 /// The number of a socket's end in a note such as `UNIX-STREAM:[42->43]`, if 32 bits hold it.
 pub(crate) fn socket_inode(note: &[u8]) -> Option<u32> {
-    let rest = after(note, b"UNIX")?;
-    let digits = behind(rest, b":[")?;
+    let digits = behind(after(note, b"UNIX")?, b":[")?;
     let (digits, _behind) = digits.split_at(digits_end(digits));
     number(digits)
-}
-
-/// The descriptors in brackets, such as `[3</a>, 4]`, that a text begins with.
-pub(crate) fn mentions_of<'t>(
-    alloc: Global,
-    text: &'t [u8],
-) -> Result<Vec<Mention<'t>>, AllocError> {
-    let mut mentions = Vec::new(alloc);
-    let Some(list) = after(text, b"[") else {
-        return Ok(mentions);
-    };
-    let parts = crate::arguments(alloc, list)?;
-    for part in &parts {
-        let part = without_spaces(part);
-        let Some(mention) = mention_of(part) else {
-            break;
-        };
-        mentions.push(mention)?;
-        if ends_list(part) {
-            break;
-        }
-    }
-    Ok(mentions)
-}
-
-/// Whether a list ends behind the descriptor that this part begins with.
-fn ends_list(part: &[u8]) -> bool {
-    let (_digits, rest) = part.split_at(digits_end(part));
-    let (_note, rest) = match rest {
-        [b'<', ..] => rest.split_at(note_end(rest)),
-        _ => rest.split_at(0),
-    };
-    matches!(rest, [b']', ..])
 }

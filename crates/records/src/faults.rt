@@ -34,7 +34,7 @@ impl<T: Drop> From<AllocFailed<T>> for LineFault {
 }
 
 /// Why bytes are no text of recorded calls: the first faulty line counts. The number is that line's, counted from 1.
-#[derive(Clone, Copy, Debug, PartialEq, Eq, Error)]
+#[derive(Clone, Copy, Debug, Error)]
 pub enum CallsFault {
     /// A line has no form that a line has there, or no line feed ends it.
     #[error("line {0}: no line of recorded calls")]

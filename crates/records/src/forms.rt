@@ -1,5 +1,6 @@
 //! What the calls of Linux, by their names, are.
 
+use crate::entries::Reason;
 use crate::other_rights::OtherRight;
 use texts::Words;
 
@@ -42,6 +43,8 @@ pub(crate) enum OnDescriptor {
     CloseRange,
     Fcntl,
     Ioctl,
+    LimitRights,
+    LimitCommands,
 }
 
 /// What a call does by a name.
@@ -94,151 +97,13 @@ pub(crate) enum Form {
     Map,
     /// It waits for descriptors.
     Waits,
-    /// It wants this right of the descriptor that is its first argument.
-    Wants(OtherRight),
+    /// It wants this right of the descriptor that this argument is.
+    Wants(OtherRight, usize),
     /// It wants this right of the directory that is its first argument, or works on a global name.
     WantsAt(OtherRight),
-    /// It wants this right of the descriptor that is its third argument.
-    WantsThird(OtherRight),
-    Quiet,
-    Global,
-    /// It is known, and has no counterpart.
-    Unknown,
+    /// It is left out for this reason.
+    LeftOut(Reason),
 }
-
-/// The calls that have a form of their own.
-const FORMS: [(&str, Form); 130] = [
-    ("open", Form::Opens(Opening::Plain)),
-    ("openat", Form::Opens(Opening::At)),
-    ("openat2", Form::Opens(Opening::At)),
-    ("creat", Form::Opens(Opening::Creat)),
-    ("read", Form::Streams(Streaming::Read)),
-    ("readv", Form::Streams(Streaming::Read)),
-    ("recv", Form::Streams(Streaming::Read)),
-    ("recvfrom", Form::Streams(Streaming::Read)),
-    ("pread", Form::Streams(Streaming::ReadAt)),
-    ("pread64", Form::Streams(Streaming::ReadAt)),
-    ("preadv", Form::Streams(Streaming::ReadAt)),
-    ("preadv2", Form::Streams(Streaming::ReadAt)),
-    ("write", Form::Streams(Streaming::Write)),
-    ("writev", Form::Streams(Streaming::Write)),
-    ("send", Form::Streams(Streaming::Write)),
-    ("sendto", Form::Streams(Streaming::Write)),
-    ("pwrite", Form::Streams(Streaming::WriteAt)),
-    ("pwrite64", Form::Streams(Streaming::WriteAt)),
-    ("pwritev", Form::Streams(Streaming::WriteAt)),
-    ("pwritev2", Form::Streams(Streaming::WriteAt)),
-    ("sendmsg", Form::Streams(Streaming::SendMessage)),
-    ("recvmsg", Form::Streams(Streaming::ReceiveMessage)),
-    ("sendfile", Form::Streams(Streaming::SendFile)),
-    ("sendfile64", Form::Streams(Streaming::SendFile)),
-    ("splice", Form::Streams(Streaming::Splice)),
-    ("copy_file_range", Form::Streams(Streaming::Splice)),
-    ("lseek", Form::Descriptor(OnDescriptor::Seek)),
-    ("_llseek", Form::Descriptor(OnDescriptor::Seek)),
-    ("ftruncate", Form::Descriptor(OnDescriptor::Truncate)),
-    ("ftruncate64", Form::Descriptor(OnDescriptor::Truncate)),
-    ("fsync", Form::Descriptor(OnDescriptor::Sync)),
-    ("fdatasync", Form::Descriptor(OnDescriptor::Sync)),
-    ("fstat", Form::Descriptor(OnDescriptor::Status)),
-    ("fstat64", Form::Descriptor(OnDescriptor::Status)),
-    ("dup", Form::Descriptor(OnDescriptor::Duplicate)),
-    ("dup2", Form::Descriptor(OnDescriptor::DuplicateTo)),
-    ("dup3", Form::Descriptor(OnDescriptor::DuplicateTo)),
-    ("close", Form::Descriptor(OnDescriptor::Close)),
-    ("close_range", Form::Descriptor(OnDescriptor::CloseRange)),
-    ("fcntl", Form::Descriptor(OnDescriptor::Fcntl)),
-    ("fcntl64", Form::Descriptor(OnDescriptor::Fcntl)),
-    ("ioctl", Form::Descriptor(OnDescriptor::Ioctl)),
-    ("stat", Form::Name(OnName::Status)),
-    ("stat64", Form::Name(OnName::Status)),
-    ("lstat", Form::Name(OnName::Status)),
-    ("lstat64", Form::Name(OnName::Status)),
-    ("access", Form::Name(OnName::Status)),
-    ("newfstatat", Form::Name(OnName::StatusAt)),
-    ("fstatat64", Form::Name(OnName::StatusAt)),
-    ("statx", Form::Name(OnName::StatusAt)),
-    ("faccessat", Form::Name(OnName::StatusAt)),
-    ("faccessat2", Form::Name(OnName::StatusAt)),
-    ("mkdir", Form::Name(OnName::MakeDirectory)),
-    ("mkdirat", Form::Name(OnName::MakeDirectoryAt)),
-    ("unlink", Form::Name(OnName::Remove)),
-    ("rmdir", Form::Name(OnName::RemoveDirectory)),
-    ("unlinkat", Form::Name(OnName::RemoveAt)),
-    ("rename", Form::Name(OnName::Rename)),
-    ("renameat", Form::Name(OnName::RenameAt)),
-    ("renameat2", Form::Name(OnName::RenameAt)),
-    ("socketpair", Form::Pair(Pairing::Sockets)),
-    ("pipe", Form::Pair(Pairing::Pipe)),
-    ("pipe2", Form::Pair(Pairing::Pipe)),
-    ("socket", Form::World),
-    ("accept", Form::World),
-    ("accept4", Form::World),
-    ("epoll_create", Form::World),
-    ("epoll_create1", Form::World),
-    ("eventfd", Form::World),
-    ("eventfd2", Form::World),
-    ("timerfd_create", Form::World),
-    ("inotify_init", Form::World),
-    ("inotify_init1", Form::World),
-    ("memfd_create", Form::World),
-    ("signalfd", Form::World),
-    ("signalfd4", Form::World),
-    ("kqueue", Form::World),
-    ("pidfd_open", Form::World),
-    ("userfaultfd", Form::World),
-    ("fork", Form::Process(OnProcess::Fork)),
-    ("vfork", Form::Process(OnProcess::Fork)),
-    ("clone", Form::Process(OnProcess::Fork)),
-    ("clone3", Form::Process(OnProcess::Fork)),
-    ("pdfork", Form::Process(OnProcess::Fork)),
-    ("execve", Form::Process(OnProcess::Execute)),
-    ("execveat", Form::Process(OnProcess::Execute)),
-    ("exit_group", Form::Process(OnProcess::End)),
-    ("exit", Form::Process(OnProcess::EndThread)),
-    ("chdir", Form::Process(OnProcess::ChangeDirectory)),
-    ("fchdir", Form::Process(OnProcess::ChangeDirectoryTo)),
-    ("chroot", Form::Process(OnProcess::ChangeRoot)),
-    ("cap_enter", Form::Process(OnProcess::EnterMode)),
-    ("cap_getmode", Form::Process(OnProcess::GetMode)),
-    ("mmap", Form::Map),
-    ("mmap2", Form::Map),
-    ("poll", Form::Waits),
-    ("ppoll", Form::Waits),
-    ("select", Form::Waits),
-    ("_newselect", Form::Waits),
-    ("pselect6", Form::Waits),
-    ("getdents", Form::Wants(OtherRight::Read)),
-    ("getdents64", Form::Wants(OtherRight::Read)),
-    ("epoll_wait", Form::Wants(OtherRight::KqueueEvent)),
-    ("epoll_pwait", Form::Wants(OtherRight::KqueueEvent)),
-    ("epoll_pwait2", Form::Wants(OtherRight::KqueueEvent)),
-    ("epoll_ctl", Form::WantsThird(OtherRight::Event)),
-    ("fchmod", Form::Wants(OtherRight::Fchmod)),
-    ("fchown", Form::Wants(OtherRight::Fchown)),
-    ("flock", Form::Wants(OtherRight::Flock)),
-    ("fstatfs", Form::Wants(OtherRight::Fstatfs)),
-    ("futimes", Form::Wants(OtherRight::Futimes)),
-    ("listen", Form::Wants(OtherRight::Listen)),
-    ("shutdown", Form::Wants(OtherRight::Shutdown)),
-    ("setsockopt", Form::Wants(OtherRight::Setsockopt)),
-    ("getsockopt", Form::Wants(OtherRight::Getsockopt)),
-    ("getsockname", Form::Wants(OtherRight::Getsockname)),
-    ("getpeername", Form::Wants(OtherRight::Getpeername)),
-    ("sync_file_range", Form::Wants(OtherRight::Fsync)),
-    ("fsetxattr", Form::Wants(OtherRight::ExtattrSet)),
-    ("fremovexattr", Form::Wants(OtherRight::ExtattrSet)),
-    ("fgetxattr", Form::Wants(OtherRight::ExtattrGet)),
-    ("flistxattr", Form::Wants(OtherRight::ExtattrGet)),
-    ("fchmodat", Form::WantsAt(OtherRight::Fchmodat)),
-    ("fchmodat2", Form::WantsAt(OtherRight::Fchmodat)),
-    ("fchownat", Form::WantsAt(OtherRight::Fchownat)),
-    ("utimensat", Form::WantsAt(OtherRight::Futimesat)),
-    ("futimesat", Form::WantsAt(OtherRight::Futimesat)),
-    ("mknodat", Form::WantsAt(OtherRight::Mknodat)),
-    ("linkat", Form::WantsAt(OtherRight::Linkat)),
-    ("readlinkat", Form::WantsAt(OtherRight::Lookup)),
-];
 
 /// The calls that have nothing to do with files or descriptors.
 const QUIET: &str =
@@ -251,7 +116,8 @@ const QUIET: &str =
     prlimit64 getrlimit setrlimit ugetrlimit getrusage getpriority setpriority nice ioprio_get ioprio_set sched_yield sched_getaffinity sched_setaffinity \
     sched_getparam sched_setparam sched_getscheduler sched_setscheduler sched_get_priority_max sched_get_priority_min sched_getattr sched_setattr \
     sched_rr_get_interval getrandom getcpu uname sysinfo umask personality getcwd tgkill tkill set_mempolicy get_mempolicy mbind seccomp timerfd_settime \
-    timerfd_gettime landlock_create_ruleset landlock_restrict_self fadvise64 readahead";
+    timerfd_gettime landlock_create_ruleset landlock_restrict_self fadvise64 readahead __sysctl __sysctlbyname sysarch issetugid sigfastblock thr_self \
+    thr_exit thr_kill rtprio_thread minherit _umtx_op";
 
 /// The calls that work on a global name space, and are none of the calls here.
 const GLOBAL: &str =
@@ -264,8 +130,120 @@ const GLOBAL: &str =
 /// The calls that are known, and have no counterpart.
 const UNKNOWN: &str =
     "sendmmsg recvmmsg tee vmsplice fallocate syncfs io_setup io_submit io_getevents io_destroy io_cancel io_uring_setup io_uring_enter io_uring_register \
-    mq_open mq_timedsend mq_timedreceive fanotify_init fanotify_mark perf_event_open bpf pidfd_getfd process_mrelease cap_rights_limit cap_rights_get \
-    cap_fcntls_limit cap_fcntls_get cap_ioctls_limit cap_ioctls_get";
+    mq_open mq_timedsend mq_timedreceive fanotify_init fanotify_mark perf_event_open bpf pidfd_getfd process_mrelease __cap_rights_get cap_rights_get \
+    cap_fcntls_get cap_ioctls_limit cap_ioctls_get";
+
+/// What calls are, by their names.
+const FORMS: [(&str, Form); 72] = [
+    ("open", Form::Opens(Opening::Plain)),
+    ("openat openat2", Form::Opens(Opening::At)),
+    ("creat", Form::Opens(Opening::Creat)),
+    ("read readv recv recvfrom", Form::Streams(Streaming::Read)),
+    (
+        "pread pread64 preadv preadv2",
+        Form::Streams(Streaming::ReadAt),
+    ),
+    ("write writev send sendto", Form::Streams(Streaming::Write)),
+    (
+        "pwrite pwrite64 pwritev pwritev2",
+        Form::Streams(Streaming::WriteAt),
+    ),
+    ("sendmsg", Form::Streams(Streaming::SendMessage)),
+    ("recvmsg", Form::Streams(Streaming::ReceiveMessage)),
+    ("sendfile sendfile64", Form::Streams(Streaming::SendFile)),
+    ("splice copy_file_range", Form::Streams(Streaming::Splice)),
+    ("lseek _llseek", Form::Descriptor(OnDescriptor::Seek)),
+    (
+        "ftruncate ftruncate64",
+        Form::Descriptor(OnDescriptor::Truncate),
+    ),
+    ("fsync fdatasync", Form::Descriptor(OnDescriptor::Sync)),
+    ("fstat fstat64", Form::Descriptor(OnDescriptor::Status)),
+    ("dup", Form::Descriptor(OnDescriptor::Duplicate)),
+    ("dup2 dup3", Form::Descriptor(OnDescriptor::DuplicateTo)),
+    ("close", Form::Descriptor(OnDescriptor::Close)),
+    ("close_range", Form::Descriptor(OnDescriptor::CloseRange)),
+    ("fcntl fcntl64", Form::Descriptor(OnDescriptor::Fcntl)),
+    ("ioctl", Form::Descriptor(OnDescriptor::Ioctl)),
+    (
+        "cap_rights_limit",
+        Form::Descriptor(OnDescriptor::LimitRights),
+    ),
+    (
+        "cap_fcntls_limit",
+        Form::Descriptor(OnDescriptor::LimitCommands),
+    ),
+    (
+        "stat stat64 lstat lstat64 access",
+        Form::Name(OnName::Status),
+    ),
+    (
+        "newfstatat fstatat64 statx faccessat faccessat2",
+        Form::Name(OnName::StatusAt),
+    ),
+    ("mkdir", Form::Name(OnName::MakeDirectory)),
+    ("mkdirat", Form::Name(OnName::MakeDirectoryAt)),
+    ("unlink", Form::Name(OnName::Remove)),
+    ("rmdir", Form::Name(OnName::RemoveDirectory)),
+    ("unlinkat", Form::Name(OnName::RemoveAt)),
+    ("rename", Form::Name(OnName::Rename)),
+    ("renameat renameat2", Form::Name(OnName::RenameAt)),
+    ("socketpair", Form::Pair(Pairing::Sockets)),
+    ("pipe pipe2", Form::Pair(Pairing::Pipe)),
+    (
+        "socket accept accept4 epoll_create epoll_create1 eventfd eventfd2 timerfd_create inotify_init inotify_init1 memfd_create signalfd signalfd4 kqueue pidfd_open userfaultfd",
+        Form::World,
+    ),
+    (
+        "fork vfork clone clone3 pdfork",
+        Form::Process(OnProcess::Fork),
+    ),
+    ("execve execveat", Form::Process(OnProcess::Execute)),
+    ("exit_group", Form::Process(OnProcess::End)),
+    ("exit", Form::Process(OnProcess::EndThread)),
+    ("chdir", Form::Process(OnProcess::ChangeDirectory)),
+    ("fchdir", Form::Process(OnProcess::ChangeDirectoryTo)),
+    ("chroot", Form::Process(OnProcess::ChangeRoot)),
+    ("cap_enter", Form::Process(OnProcess::EnterMode)),
+    ("cap_getmode", Form::Process(OnProcess::GetMode)),
+    ("mmap mmap2", Form::Map),
+    ("poll ppoll select _newselect pselect6", Form::Waits),
+    ("getdents getdents64", Form::Wants(OtherRight::Read, 0)),
+    (
+        "epoll_wait epoll_pwait epoll_pwait2",
+        Form::Wants(OtherRight::KqueueEvent, 0),
+    ),
+    ("epoll_ctl", Form::Wants(OtherRight::Event, 2)),
+    ("fchmod", Form::Wants(OtherRight::Fchmod, 0)),
+    ("fchown", Form::Wants(OtherRight::Fchown, 0)),
+    ("flock", Form::Wants(OtherRight::Flock, 0)),
+    ("fstatfs", Form::Wants(OtherRight::Fstatfs, 0)),
+    ("futimes", Form::Wants(OtherRight::Futimes, 0)),
+    ("listen", Form::Wants(OtherRight::Listen, 0)),
+    ("shutdown", Form::Wants(OtherRight::Shutdown, 0)),
+    ("setsockopt", Form::Wants(OtherRight::Setsockopt, 0)),
+    ("getsockopt", Form::Wants(OtherRight::Getsockopt, 0)),
+    ("getsockname", Form::Wants(OtherRight::Getsockname, 0)),
+    ("getpeername", Form::Wants(OtherRight::Getpeername, 0)),
+    ("sync_file_range", Form::Wants(OtherRight::Fsync, 0)),
+    (
+        "fsetxattr fremovexattr",
+        Form::Wants(OtherRight::ExtattrSet, 0),
+    ),
+    (
+        "fgetxattr flistxattr",
+        Form::Wants(OtherRight::ExtattrGet, 0),
+    ),
+    ("fchmodat fchmodat2", Form::WantsAt(OtherRight::Fchmodat)),
+    ("fchownat", Form::WantsAt(OtherRight::Fchownat)),
+    ("utimensat futimesat", Form::WantsAt(OtherRight::Futimesat)),
+    ("mknodat", Form::WantsAt(OtherRight::Mknodat)),
+    ("linkat", Form::WantsAt(OtherRight::Linkat)),
+    ("readlinkat", Form::WantsAt(OtherRight::Lookup)),
+    (QUIET, Form::LeftOut(Reason::Quiet)),
+    (GLOBAL, Form::LeftOut(Reason::Global)),
+    (UNKNOWN, Form::LeftOut(Reason::Unknown)),
+];
 
 /// Whether a name is among these.
 fn is_among(names: &str, name: &[u8]) -> bool {
@@ -278,29 +256,12 @@ fn is_among(names: &str, name: &[u8]) -> bool {
     false
 }
 
-/// The form that a call has of its own, by its name.
-fn own_form(name: &[u8]) -> Option<Form> {
-    for (known, form) in &FORMS {
-        if known.as_bytes() == name {
-            return Some(*form);
+/// What a call is, by its name.
+pub(crate) fn form_of(name: &[u8]) -> Form {
+    for (names, form) in &FORMS {
+        if is_among(names, name) {
+            return *form;
         }
     }
-    None
-}
-
-/// What a call is, by its name.
-pub(crate) fn form_of(name: &[u8]) -> Option<Form> {
-    if let Some(form) = own_form(name) {
-        return Some(form);
-    }
-    if is_among(QUIET, name) {
-        return Some(Form::Quiet);
-    }
-    if is_among(GLOBAL, name) {
-        return Some(Form::Global);
-    }
-    if is_among(UNKNOWN, name) {
-        return Some(Form::Unknown);
-    }
-    None
+    Form::LeftOut(Reason::Name)
 }

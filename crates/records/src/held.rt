@@ -4,10 +4,7 @@ use rights::Side;
 use std::alloc::{AllocError, Global};
 
 /// How many numbers of a process are followed.
-pub(crate) const MAX_FOLLOWED: usize = 256;
-
-/// How long a place is that is kept, at most.
-pub(crate) const MAX_PLACE: usize = 4096;
+pub(crate) const MAX_FOLLOWED: u32 = 256;
 
 /// What a descriptor is of.
 #[derive(Clone, Copy)]
@@ -19,6 +16,9 @@ pub(crate) enum Kept {
     /// This end of this pair.
     End(u32, Side),
 }
+
+/// An end of the world's pair.
+pub(crate) const WORLD: Kept = Kept::End(0, Side::A);
 
 /// A descriptor that a process holds.
 #[derive(Clone, Copy)]
@@ -35,7 +35,7 @@ pub(crate) struct Table {
 }
 
 impl Table {
-    /// No descriptor.
+    /// No descriptor, of a process that is none.
     pub(crate) fn empty(alloc: Global) -> Table {
         Table {
             slots: Vec::new(alloc),
@@ -44,13 +44,17 @@ impl Table {
 
     /// Those of a process that begins: 0, 1 and 2 are ends of the world's pair.
     pub(crate) fn first(alloc: Global) -> Result<Table, AllocError> {
-        let mut table = Table::empty(alloc);
-        let world = Held {
-            kept: Kept::End(0, Side::A),
-            closes_on_exec: false,
+        let mut table = Table {
+            slots: vec![in alloc; None; MAX_FOLLOWED as usize]?,
         };
         for number in 0..3 {
-            table.set(number, world)?;
+            table.put(
+                number,
+                Some(Held {
+                    kept: WORLD,
+                    closes_on_exec: false,
+                }),
+            );
         }
         Ok(table)
     }
@@ -64,9 +68,11 @@ impl Table {
 
     /// The descriptor of a number, if it is known.
     pub(crate) fn get(&self, number: u32) -> Option<Held> {
-        match self.slots.get(number as usize) {
-            Some(slot) => *slot,
-            None => None,
+        let at = number as usize;
+        if at < self.slots.len() {
+            self.slots[at]
+        } else {
+            None
         }
     }
 
@@ -78,28 +84,18 @@ impl Table {
         }
     }
 
-    /// Puts a descriptor at a number, if that is one of those that are followed.
-    pub(crate) fn set(&mut self, number: u32, held: Held) -> Result<(), AllocError> {
+    /// Puts a descriptor at a number, or takes that away, if it is one of those that are followed.
+    pub(crate) fn put(&mut self, number: u32, held: Option<Held>) {
         let at = number as usize;
-        if at >= MAX_FOLLOWED {
-            return Ok(());
+        if at < self.slots.len() {
+            self.slots[at] = held;
         }
-        for _ in self.slots.len()..at + 1 {
-            self.slots.push(None)?;
-        }
-        self.put(at, Some(held));
-        Ok(())
     }
 
-    /// Takes a number away.
-    pub(crate) fn remove(&mut self, number: u32) {
-        self.put(number as usize, None);
-    }
-
-    /// Changes a slot that is there.
-    fn put(&mut self, at: usize, slot: Option<Held>) {
-        if let Some(there) = self.slots.get_mut(at) {
-            *there = slot;
+    /// Takes all away.
+    pub(crate) fn clear(&mut self) {
+        for number in 0..MAX_FOLLOWED {
+            self.put(number, None);
         }
     }
 
@@ -107,7 +103,7 @@ impl Table {
     pub(crate) fn set_closing(&mut self, number: u32, closes_on_exec: bool) {
         if let Some(held) = self.get(number) {
             self.put(
-                number as usize,
+                number,
                 Some(Held {
                     kept: held.kept,
                     closes_on_exec,
@@ -116,36 +112,17 @@ impl Table {
         }
     }
 
-    /// The numbers that are closed where the process goes on as another program.
-    pub(crate) fn closing(&self, alloc: Global) -> Result<Vec<u32>, AllocError> {
-        let mut numbers = Vec::new(alloc);
-        for number in 0..MAX_FOLLOWED as u32 {
-            if self.get(number).is_some_and(|held| held.closes_on_exec) {
-                numbers.push(number)?;
-            }
+    /// Whether a number is closed where the process goes on as another program.
+    pub(crate) fn is_closing(&self, number: u32) -> bool {
+        match self.get(number) {
+            Some(held) => held.closes_on_exec,
+            None => false,
         }
-        Ok(numbers)
-    }
-
-    /// The numbers from one to another that descriptors have.
-    pub(crate) fn between(
-        &self,
-        alloc: Global,
-        first: u32,
-        last: u32,
-    ) -> Result<Vec<u32>, AllocError> {
-        let mut numbers = Vec::new(alloc);
-        for number in 0..MAX_FOLLOWED as u32 {
-            if first <= number && number <= last && self.get(number).is_some() {
-                numbers.push(number)?;
-            }
-        }
-        Ok(numbers)
     }
 
     /// The first number that is an end of the world's pair, or 0.
     pub(crate) fn world_number(&self) -> u32 {
-        for number in 0..MAX_FOLLOWED as u32 {
+        for number in 0..MAX_FOLLOWED {
             if matches!(self.kept(number), Kept::End(0, _)) {
                 return number;
             }

@@ -133,8 +133,8 @@ fn add_left_out(page: &mut Page, left_out: &LeftOut)
     add_wanted(page, &left_out.wanted);
 }
 
-/// Adds an event, each word behind a space.
-fn add_event(page: &mut Page, event: &Event)
+/// Adds an event as its line tells it, each word behind a space.
+pub fn add_event(page: &mut Page, event: &Event)
     ensures { Adds page.old page.new (behind_spaces (event_words (event_seen event.now))) }
 {
     match event {

@@ -66,6 +66,9 @@ const ERRORS: [Errno; 19] = [
     Errno::ECAPMODE,
 ];
 
+/// The number of the error of a descriptor that can't seek.
+const ESPIPE: u32 = 29;
+
 /// All reasons.
 pub(crate) const REASONS: [Reason; 6] = [
     Reason::Loader,
@@ -114,6 +117,19 @@ pub(crate) fn find_error(word: &[u8]) -> Result<Errno, LineFault>
     ensures { Reads errno_of result (error_of_word word.now) }
 {
     error_among(&ERRORS, word)
+}
+
+/// The name of the error of this number, by FreeBSD's numbers (errno(2)), if it is one that is known.
+pub(crate) fn error_of_number(number: u32) -> Option<&'static [u8]> {
+    if number == ESPIPE {
+        return Some(b"ESPIPE");
+    }
+    for error in &ERRORS {
+        if u32::from(error.number()) == number {
+            return Some(error.name().as_bytes());
+        }
+    }
+    None
 }
 
 /// The first of these reasons that the word names.

@@ -1,43 +1,29 @@
 //! Opens, as calls.
 
-ghost use Rattle.std.specs.Prelude.{◌≤◌};
-
 use crate::entries::{Outcome, Reason};
 use crate::forms::Opening;
 use crate::held::Kept;
-use crate::real_calls::RealCall;
-use crate::runs::{Run, Target};
+use crate::known::About;
+use crate::real_calls::Given;
+use crate::runs::Run;
 use crate::seen_calls::SeenCall;
-use rights::OpenFlags;
-use std::alloc::AllocError;
+use crate::targets::{AT, HERE, Naming, Target};
+use rights::{Call, OpenFlags};
 
 impl Opening {
-    /// Which argument the path is.
-    fn path(self) -> usize
-        ensures { result ≤ 1 }
-    {
+    /// Which arguments name what is opened.
+    fn naming(self) -> Naming {
         match self {
-            Opening::At => 1,
-            Opening::Plain | Opening::Creat => 0,
+            Opening::At => AT,
+            Opening::Plain | Opening::Creat => HERE,
         }
     }
 
-    /// What is opened.
-    fn target<'t>(self, run: &Run, seen: &SeenCall<'t>) -> Result<Option<Target<'t>>, AllocError> {
+    /// Which argument has the flags.
+    fn flags(self) -> usize {
         match self {
-            Opening::At => run.target_of(seen, 0, 1),
-            Opening::Plain | Opening::Creat => Ok(match run.place_of(seen, 0)? {
-                Some(place) => Some(Target::Global(place)),
-                None => None,
-            }),
-        }
-    }
-
-    /// How it is opened, if that has a counterpart.
-    fn flags(self, seen: &SeenCall<'_>) -> Option<OpenFlags> {
-        match self {
-            Opening::Creat => OpenFlags::new(false, true, false, true, true),
-            Opening::Plain | Opening::At => flags_of(seen, self.path() + 1),
+            Opening::At => 2,
+            Opening::Plain | Opening::Creat => 1,
         }
     }
 }
@@ -57,86 +43,70 @@ fn flags_of(seen: &SeenCall<'_>, at: usize) -> Option<OpenFlags> {
 
 /// Whether an open fails for what the calls here have no flag for: that the file be new, or a directory.
 fn is_asked_more(seen: &SeenCall<'_>, at: usize) -> bool {
-    (seen.has(at, b"O_EXCL") && seen.fails_with(b"EEXIST"))
-        || (seen.has(at, b"O_DIRECTORY") && seen.fails_with(b"ENOTDIR"))
-        || (seen.has(at, b"O_NOFOLLOW") && seen.fails_with(b"ELOOP"))
-}
-
-/// The place that a target is at, if it is known.
-fn place_of(
-    run: &Run,
-    seen: &SeenCall<'_>,
-    target: &Target<'_>,
-) -> Result<Option<Vec<u8>>, AllocError> {
-    match target {
-        Target::Global(place) => Ok(Some(Vec::from_slice(run.alloc, place)?)),
-        Target::Beneath(base, path) => run.place_beneath(seen.process, base.number, path),
-    }
+    (seen.has(at, b"O_EXCL") && seen.error == b"EEXIST".as_slice())
+        || (seen.has(at, b"O_DIRECTORY") && seen.error == b"ENOTDIR".as_slice())
+        || (seen.has(at, b"O_NOFOLLOW") && seen.error == b"ELOOP".as_slice())
 }
 
 /// What an opened descriptor is of, where the record doesn't note it.
-fn opened(run: &mut Run, seen: &SeenCall<'_>, target: &Target<'_>) -> Result<Kept, AllocError> {
-    let Some(place) = place_of(run, seen, target)? else {
-        return Ok(Kept::Unknown);
-    };
-    Ok(match run.processes.keep_place(place)? {
-        Some(number) => Kept::Place(number),
+fn opened(run: &mut Run, target: &Target<'_>) -> Kept {
+    match run.known.place_at(target) {
+        Some(place) => run.known.keep(place),
         None => Kept::Unknown,
-    })
+    }
 }
 
 /// Puts an opened descriptor into its process's table.
-fn hold(
-    run: &mut Run,
-    seen: &SeenCall<'_>,
-    target: Option<&Target<'_>>,
-    closes_on_exec: bool,
-) -> Result<(), AllocError> {
-    let Some(made) = seen.made() else {
-        return Ok(());
+fn hold(run: &mut Run, seen: &SeenCall<'_>, target: &Option<Target<'_>>, closes_on_exec: bool) {
+    let Some(made) = seen.made else {
+        return;
     };
     let kept = match target {
-        Some(target) if made.note.is_empty() => opened(run, seen, target)?,
-        _ => run.processes.kept_of_note(made.note)?,
+        Some(target) if made.note.is_empty() => opened(run, target),
+        _ => run.known.kept_of_note(made.note),
     };
-    run.processes
-        .set(seen.process, made.number, kept, closes_on_exec)
+    run.known.hold(made.number, kept, closes_on_exec);
 }
 
-/// An open with these flags.
+/// An open of what stands at a name, with these flags.
 fn add_open(
     run: &mut Run,
     seen: &SeenCall<'_>,
-    target: Target<'_>,
+    target: &Target<'_>,
     flags: OpenFlags,
-    outcome: Outcome,
-) -> Result<(), AllocError> {
-    let mut bindings = run.unbound();
-    let real = match target {
-        Target::Global(place) => RealCall::open(run.alloc, &place, flags)?,
-        Target::Beneath(base, path) => {
-            run.processes.bind(&mut bindings, seen.process, base)?;
-            RealCall::openat(run.alloc, base.number, &path, flags)?
-        }
+    outcome: Option<Outcome>,
+) {
+    let path = Given::Path(&target.path);
+    let flags = Given::Flags(flags);
+    let about = About {
+        first: target.base,
+        second: seen.made,
     };
-    if let Some(made) = seen.made() {
-        run.processes.bind(&mut bindings, seen.process, made)?;
+    match target.base {
+        None => run.add(seen, Call::Open, &[path, flags], outcome, about),
+        Some(base) => {
+            let given = [Given::Number(base.number), path, flags];
+            run.add(seen, Call::Openat, &given, outcome, about);
+        }
     }
-    run.add(seen, real, Some(outcome), bindings)
 }
 
 /// Takes an open.
-pub(crate) fn take(run: &mut Run, seen: &SeenCall<'_>, opening: Opening) -> Result<(), AllocError> {
-    let at = opening.path() + 1;
-    let target = opening.target(run, seen)?;
-    hold(run, seen, target.as_ref(), seen.has(at, b"O_CLOEXEC"))?;
+pub(crate) fn take(run: &mut Run, seen: &SeenCall<'_>, opening: Opening) {
+    let at = opening.flags();
+    let target = run.known.target(seen, opening.naming());
+    hold(run, seen, &target, seen.has(at, b"O_CLOEXEC"));
+    let flags = match opening {
+        Opening::Creat => OpenFlags::new(false, true, false, true, true),
+        Opening::Plain | Opening::At => flags_of(seen, at),
+    };
     let outcome = if is_asked_more(seen, at) {
         None
     } else {
-        seen.outcome()
+        seen.outcome
     };
-    match (target, opening.flags(seen), outcome) {
-        (Some(target), Some(flags), Some(outcome)) => add_open(run, seen, target, flags, outcome),
+    match (&target, flags) {
+        (Some(target), Some(flags)) => add_open(run, seen, target, flags, outcome),
         _ => run.omit(seen, Reason::Unknown),
     }
 }

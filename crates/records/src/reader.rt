@@ -5,10 +5,11 @@ ghost use Rattle.records.specs.Calls.{are_calls};
 ghost use Rattle.records.specs.EntryViews.{calls_seen};
 
 use crate::argument_parts::arguments;
-use crate::entries::{Entry, Reason};
+use crate::entries::{Entry, Event, Reason};
 use crate::forms::{Form, OnProcess, form_of};
 use crate::logs::{CallName, When};
-use crate::process_calls::{begin_child, is_thread};
+use crate::process_calls::is_thread;
+use crate::processes::Processes;
 use crate::runs::Run;
 use crate::seen_calls::SeenCall;
 use crate::strace::{StraceLine, Told};
@@ -18,12 +19,12 @@ use std::alloc::{AllocError, Global};
 use std::collections::BTreeMap;
 use std::mem;
 
-/// A call that has begun.
-#[derive(Drop)]
-struct Begun {
+/// A call that has begun, in a line.
+#[derive(Clone, Copy)]
+struct Begun<'t> {
     line: u32,
-    name: Vec<u8>,
-    arguments: Vec<u8>,
+    name: &'t [u8],
+    arguments: &'t [u8],
 }
 
 /// A fork that has begun: its thread and its line.
@@ -35,10 +36,12 @@ struct BegunFork {
 
 /// A record as its lines are gone through.
 #[derive(Drop)]
-pub(crate) struct Reader {
+pub(crate) struct Reader<'t> {
+    alloc: Global,
     run: Run,
+    processes: Processes,
     /// The calls that have begun, by their threads.
-    begun: BTreeMap<u32, Begun>,
+    begun: BTreeMap<u32, Begun<'t>>,
     /// The forks that have begun and of which no child is known yet, or which have ended.
     forks: Vec<BegunFork>,
     /// The thread of lines that tell none: 0 as long as it isn't known.
@@ -52,11 +55,13 @@ const UNTOLD: CallResult<'static> = CallResult {
     error: None,
 };
 
-impl Reader {
+impl<'t> Reader<'t> {
     /// Before the first line.
-    pub(crate) fn new(alloc: Global) -> Reader {
+    pub(crate) fn new(alloc: Global) -> Reader<'t> {
         Reader {
+            alloc,
             run: Run::new(alloc),
+            processes: Processes::new(alloc),
             begun: BTreeMap::new(alloc),
             forks: Vec::new(alloc),
             unnamed: 0,
@@ -65,20 +70,20 @@ impl Reader {
 
     /// The process of a fork, and whether it makes a thread: nothing where the fork has ended.
     fn forking(&self, fork: BegunFork) -> Option<(usize, bool)> {
-        let begun = self.begun.get(&fork.thread)?;
+        let begun = self.begun.get(&fork.thread).copied()?;
         if begun.line != fork.line {
             return None;
         }
-        let process = self.run.processes.find(fork.thread)?;
-        Some((process, is_thread(&begun.arguments)))
+        let process = self.processes.find(fork.thread)?;
+        Some((process, is_thread(begun.arguments)))
     }
 
     /// The same of the fork that began last, of those that haven't ended and of which no child is known.
     fn last_fork(&mut self) -> Option<(usize, bool)> {
         for _ in 0..self.forks.len() {
-            let fork = self.forks.last().copied()?;
-            if let Some(forking) = self.forking(fork) {
-                return Some(forking);
+            let forking = self.forking(self.forks.last().copied()?);
+            if forking.is_some() {
+                return forking;
             }
             self.forks.pop();
         }
@@ -92,20 +97,20 @@ impl Reader {
         }
         if let Some((parent, is_thread)) = self.last_fork() {
             self.forks.pop();
-            begin_child(&mut self.run, parent, thread, is_thread)?;
+            self.processes.begin_child(parent, thread, is_thread)?;
         }
-        if let Some(process) = self.run.processes.find(thread) {
+        if let Some(process) = self.processes.find(thread) {
             return Ok(process);
         }
-        match self.run.processes.find(0) {
+        match self.processes.find(0) {
             Some(process) if self.unnamed == 0 => self.take_for_unnamed(process, thread),
-            _ => self.run.processes.begin(thread),
+            _ => self.processes.begin(thread),
         }
     }
 
     /// Takes a thread for the one of the lines before, which told none: it goes on with the call that began there.
     fn take_for_unnamed(&mut self, process: usize, thread: u32) -> Result<usize, AllocError> {
-        self.run.processes.take_for_leader(process, thread)?;
+        self.processes.take_for_leader(process, thread)?;
         self.unnamed = thread;
         if let Some(begun) = self.begun.remove(&0) {
             self.begun.insert(thread, begun)?;
@@ -115,13 +120,20 @@ impl Reader {
 
     /// The process of a thread, if it is known: not of one that is the first of a process which has ended, while a fork may make another of its number.
     fn known_process(&mut self, thread: u32) -> Option<usize> {
-        let process = self.run.processes.find(thread)?;
-        let may_be_new = self.run.processes.is_leader(process, thread)
-            && self.last_fork().is_some();
-        if may_be_new {
-            return self.run.processes.find_going_on(thread);
+        let process = self.processes.find(thread)?;
+        if self.processes.is_leader(process, thread) && self.last_fork().is_some() {
+            return self.processes.find_going_on(thread);
         }
         Some(process)
+    }
+
+    /// Takes a call of a process.
+    fn take_seen(&mut self, process: usize, seen: &SeenCall<'_>) {
+        self.processes
+            .exchange(process, &mut self.run.known.process);
+        taken_calls::take(&mut self.run, seen);
+        self.processes
+            .exchange(process, &mut self.run.known.process);
     }
 
     /// Takes a call of a thread that began at a line and ends at another.
@@ -135,40 +147,57 @@ impl Reader {
         returned: CallResult<'_>,
     ) -> Result<(), AllocError> {
         let process = self.process_of(thread)?;
-        let number = self.run.processes.number(process);
-        let seen = SeenCall {
-            when: When::new(first, last, number),
+        let when = When::new(first, last, self.processes.number(process));
+        let parts = arguments(self.alloc, text)?;
+        self.take_seen(
             process,
-            thread,
-            name,
-            arguments: arguments(self.run.alloc, text)?,
-            returned,
-        };
-        taken_calls::take(&mut self.run, &seen)
+            &SeenCall::new(when, thread, name, text, &parts, returned),
+        );
+        self.take_made(process, name, text, returned)
+    }
+
+    /// Makes known what a fork has made.
+    fn take_made(
+        &mut self,
+        process: usize,
+        name: CallName<'_>,
+        text: &[u8],
+        returned: CallResult<'_>,
+    ) -> Result<(), AllocError> {
+        match returned.answer {
+            Answer::Number(child) if is_fork(name.bytes) => {
+                self.processes.begin_child(process, child, is_thread(text))
+            }
+            _ => Ok(()),
+        }
     }
 
     /// Takes the beginning of a call.
     fn begin(
         &mut self,
-        line: u32,
         thread: u32,
-        name: &[u8],
-        arguments: &[u8],
+        line: u32,
+        name: &'t [u8],
+        arguments: &'t [u8],
     ) -> Result<(), AllocError> {
         self.process_of(thread)?;
-        let alloc = self.run.alloc;
         if is_fork(name) {
             self.forks.push(BegunFork { thread, line })?;
         }
         let begun = Begun {
             line,
-            name: Vec::from_slice(alloc, name)?,
-            arguments: Vec::from_slice(alloc, arguments)?,
+            name,
+            arguments,
         };
-        if let Some(earlier) = self.begun.insert(thread, begun)? {
-            self.give_up(thread, earlier)?;
+        self.go_on_with(thread, begun)
+    }
+
+    /// Notes that a thread is at a call that has begun: another one at which it was before never came back.
+    fn go_on_with(&mut self, thread: u32, begun: Begun<'t>) -> Result<(), AllocError> {
+        match self.begun.insert(thread, begun)? {
+            Some(earlier) => self.give_up(thread, earlier),
+            None => Ok(()),
         }
-        Ok(())
     }
 
     /// Takes the end of a call.
@@ -181,48 +210,47 @@ impl Reader {
         returned: CallResult<'_>,
     ) -> Result<(), AllocError> {
         self.process_of(thread)?;
-        let Some(mut begun) = self.begun.remove(&thread) else {
+        let Some(begun) = self.begun.get(&thread).copied() else {
             return Ok(());
         };
-        if begun.name.as_slice() != name {
-            self.begun.insert(thread, begun)?;
+        if begun.name != name {
             return Ok(());
         }
-        begun.arguments.extend_from_slice(rest)?;
+        self.begun.remove(&thread);
         match CallName::new(name) {
-            Some(name) => self.take_call(
-                begun.line,
-                line,
-                thread,
-                name,
-                &begun.arguments,
-                returned,
-            ),
+            Some(name) => self.take_resumed(begun, line, thread, name, rest, returned),
             None => Ok(()),
         }
     }
 
+    /// Takes a call that has begun, and ends at this line.
+    fn take_resumed(
+        &mut self,
+        begun: Begun<'t>,
+        line: u32,
+        thread: u32,
+        name: CallName<'_>,
+        rest: &[u8],
+        returned: CallResult<'_>,
+    ) -> Result<(), AllocError> {
+        let mut text = Vec::from_slice(self.alloc, begun.arguments)?;
+        text.extend_from_slice(rest)?;
+        self.take_call(begun.line, line, thread, name, &text, returned)
+    }
+
     /// Takes a call that never came back: it is left out, but for the end of a process.
-    fn give_up(&mut self, thread: u32, begun: Begun) -> Result<(), AllocError> {
-        let Some(name) = CallName::new(&begun.name) else {
+    fn give_up(&mut self, thread: u32, begun: Begun<'t>) -> Result<(), AllocError> {
+        let Some(name) = CallName::new(begun.name) else {
             return Ok(());
         };
-        if is_end(&begun.name) {
-            return self.take_call(
-                begun.line,
-                begun.line,
-                thread,
-                name,
-                &begun.arguments,
-                UNTOLD,
-            );
+        let line = begun.line;
+        if is_end(begun.name) {
+            return self.take_call(line, line, thread, name, begun.arguments, UNTOLD);
         }
         let process = self.process_of(thread)?;
-        let number = self.run.processes.number(process);
-        let when = When::new(begun.line, begun.line, number);
-        self.run
-            .log
-            .add_left_out(self.run.alloc, when, Reason::Unknown, name)
+        let when = When::new(line, line, self.processes.number(process));
+        self.run.omit_at(when, Reason::Unknown, name);
+        Ok(())
     }
 
     /// Takes the end of a thread: of its process, where it is the first one and goes on.
@@ -230,28 +258,26 @@ impl Reader {
         if let Some(begun) = self.begun.remove(&thread) {
             self.give_up(thread, begun)?;
         }
-        let Some(process) = self.run.processes.find(thread) else {
+        let Some(process) = self.processes.find(thread) else {
             return Ok(());
         };
-        if self.run.processes.is_leader(process, thread) && self.run.processes.end(process) {
-            let number = self.run.processes.number(process);
-            self.run.log.add_end(When::new(line, line, number))?;
+        if self.processes.is_leader(process, thread) && self.processes.end(process) {
+            let when = When::new(line, line, self.processes.number(process));
+            self.run.log.add(when, Ok(Event::Ended));
         }
         Ok(())
     }
 
     /// Takes that a thread goes on with the call that another one began.
     fn supersede(&mut self, thread: u32, other: u32) -> Result<(), AllocError> {
-        if let Some(begun) = self.begun.remove(&other)
-            && let Some(earlier) = self.begun.insert(thread, begun)?
-        {
-            self.give_up(thread, earlier)?;
+        match self.begun.remove(&other) {
+            Some(begun) => self.go_on_with(thread, begun),
+            None => Ok(()),
         }
-        Ok(())
     }
 
     /// Takes a line. One that fits no call that has begun, or isn't understood, gives nothing.
-    pub(crate) fn take(&mut self, number: u32, line: &StraceLine<'_>) -> Result<(), AllocError> {
+    pub(crate) fn take(&mut self, number: u32, line: &StraceLine<'t>) -> Result<(), AllocError> {
         let thread = line.process.unwrap_or(self.unnamed);
         match line.told {
             Told::Finished {
@@ -262,7 +288,7 @@ impl Reader {
                 Some(name) => self.take_call(number, number, thread, name, arguments, returned),
                 None => Ok(()),
             },
-            Told::Unfinished { name, arguments } => self.begin(number, thread, name, arguments),
+            Told::Unfinished { name, arguments } => self.begin(thread, number, name, arguments),
             Told::Resumed {
                 name,
                 arguments,
@@ -276,7 +302,8 @@ impl Reader {
 
     /// Gives up the calls that haven't ended, behind the last line.
     fn give_up_all(&mut self) -> Result<(), AllocError> {
-        let left = mem::replace(&mut self.begun, BTreeMap::new(self.run.alloc));
+        let none = BTreeMap::new(self.alloc);
+        let left = mem::replace(&mut self.begun, none);
         for (thread, begun) in left {
             self.give_up(thread, begun)?;
         }
@@ -288,19 +315,19 @@ impl Reader {
         ensures { IfOk result (λ entries. are_calls (calls_seen entries.items) ≡ true) }
     {
         self.give_up_all()?;
-        Ok(self.run.into_entries())
+        self.run.into_entries()
     }
 }
 
 /// Whether a call makes processes.
 fn is_fork(name: &[u8]) -> bool {
-    matches!(form_of(name), Some(Form::Process(OnProcess::Fork)))
+    matches!(form_of(name), Form::Process(OnProcess::Fork))
 }
 
 /// Whether a call ends a process.
 fn is_end(name: &[u8]) -> bool {
     matches!(
         form_of(name),
-        Some(Form::Process(OnProcess::End | OnProcess::EndThread))
+        Form::Process(OnProcess::End | OnProcess::EndThread)
     )
 }

@@ -1,202 +1,86 @@
 //! Calls with real operands, of the kinds that each call is given.
 
-ghost use Rattle.std.specs.Prelude.{◌≡◌, [], ◌∷◌, IfOk, map, true};
-ghost use Rattle.rights.specs.Views.{call_of};
+ghost use Rattle.std.specs.Prelude.{◌≡◌, IfOk, map, true};
+ghost use Rattle.records.specs.GivenViews.{given_kind};
 ghost use Rattle.records.specs.OperandViews.{operand_seen};
-ghost use Rattle.records.specs.Calls.{A_number, A_path, Directory, Flags, Number, Path, are_of_kinds, operand_kinds};
+ghost use Rattle.records.specs.Calls.{A_command_set, A_path, A_right_set, Open_flags, are_of_kinds, is_of_kind, is_real_operand};
 
 use crate::operands::Operand;
-use rights::{Call, OpenFlags};
+use crate::sets::{read_commands, read_rights};
+use rights::OpenFlags;
 use std::alloc::{AllocError, Global};
+use texts::Page;
 
-/// A call with what it was given.
-#[derive(Drop)]
-pub(crate) struct RealCall {
-    pub(crate) call: Call,
-    pub(crate) operands: Vec<Operand>,
-    pub ghost kinds: { are_of_kinds (operand_kinds (call_of call)) (map operand_seen operands.items) ≡ true },
+/// What a call is given.
+#[derive(Clone, Copy)]
+pub(crate) enum Given<'g> {
+    Number(u32),
+    Path(&'g Page),
+    Flags(OpenFlags),
+    /// Whether a directory is what is removed.
+    Directory(bool),
+    /// The rights that a limit leaves, by their names.
+    Rights(&'g Page),
+    /// The fcntl commands, likewise.
+    Commands(&'g Page),
 }
 
-impl RealCall {
-    /// A call that is given nothing.
-    pub(crate) fn alone(alloc: Global, call: Call) -> RealCall
-        requires { operand_kinds (call_of call) ≡ [] }
-        ensures call { result.call ≡ call }
-        ensures operands { result.operands.items ≡ [] }
-    {
-        RealCall {
-            call,
-            operands: Vec::new(alloc),
-        }
-    }
+/// The operand that is a path.
+fn path_operand(path: Vec<u8>) -> Operand
+    ensures kind { is_of_kind A_path (operand_seen result) ≡ true }
+    ensures within { is_real_operand (operand_seen result) ≡ true }
+{
+    Operand::Path(path)
+}
 
-    /// A call that is given a number.
-    pub(crate) fn on(alloc: Global, call: Call, number: u32) -> Result<RealCall, AllocError>
-        requires { operand_kinds (call_of call) ≡ A_number ∷ [] }
-        ensures call { IfOk result (λ real. real.call ≡ call) }
-        ensures operands { IfOk result (λ real. map operand_seen real.operands.items ≡ Number number ∷ []) }
-    {
-        let mut operands = Vec::new(alloc);
-        operands.push(Operand::Number(number))?;
-        Ok(RealCall { call, operands })
-    }
+/// The operand that is how a file is opened.
+fn flags_operand(flags: OpenFlags) -> Operand
+    ensures kind { is_of_kind Open_flags (operand_seen result) ≡ true }
+    ensures within { is_real_operand (operand_seen result) ≡ true }
+{
+    Operand::Flags(flags)
+}
 
-    /// A call that is given two numbers.
-    pub(crate) fn with(
-        alloc: Global,
-        call: Call,
-        number: u32,
-        value: u32,
-    ) -> Result<RealCall, AllocError>
-        requires { operand_kinds (call_of call) ≡ A_number ∷ A_number ∷ [] }
-        ensures call { IfOk result (λ real. real.call ≡ call) }
-        ensures operands { IfOk result (λ real. map operand_seen real.operands.items ≡ Number number ∷ Number value ∷ []) }
-    {
-        let mut operands = Vec::new(alloc);
-        operands.push(Operand::Number(number))?;
-        operands.push(Operand::Number(value))?;
-        Ok(RealCall { call, operands })
-    }
+/// The operand that is the rights of these names.
+#[tactic(auto, using(crate::proofs::Limits::rights_fit))]
+fn rights_operand(names: &[u8]) -> Operand
+    ensures kind { is_of_kind A_right_set (operand_seen result) ≡ true }
+    ensures within { is_real_operand (operand_seen result) ≡ true }
+{
+    Operand::Rights(read_rights(names))
+}
 
-    /// The sending of a descriptor with a byte.
-    pub(crate) fn sendfd(
-        alloc: Global,
-        number: u32,
-        sent: u32,
-        byte: u32,
-    ) -> Result<RealCall, AllocError>
-        ensures call { IfOk result (λ real. real.call ≡ Call.Sendfd) }
-        ensures operands { IfOk result (λ real. map operand_seen real.operands.items ≡ Number number ∷ Number sent ∷ Number byte ∷ []) }
-    {
-        let mut operands = Vec::new(alloc);
-        operands.push(Operand::Number(number))?;
-        operands.push(Operand::Number(sent))?;
-        operands.push(Operand::Number(byte))?;
-        Ok(RealCall {
-            call: Call::Sendfd,
-            operands,
-        })
-    }
+/// The operand that is the fcntl commands of these names.
+#[tactic(auto, using(crate::proofs::Limits::commands_fit))]
+fn commands_operand(names: &[u8]) -> Operand
+    ensures kind { is_of_kind A_command_set (operand_seen result) ≡ true }
+    ensures within { is_real_operand (operand_seen result) ≡ true }
+{
+    Operand::Commands(read_commands(names))
+}
 
-    /// A call that is given a path.
-    pub(crate) fn at(alloc: Global, call: Call, path: &[u8]) -> Result<RealCall, AllocError>
-        requires { operand_kinds (call_of call) ≡ A_path ∷ [] }
-        ensures call { IfOk result (λ real. real.call ≡ call) }
-        ensures operands { IfOk result (λ real. map operand_seen real.operands.items ≡ Path path.now ∷ []) }
-    {
-        let mut operands = Vec::new(alloc);
-        operands.push(Operand::Path(Vec::from_slice(alloc, path)?))?;
-        Ok(RealCall { call, operands })
+/// The operand that a call is given.
+fn operand_of(alloc: Global, given: &Given<'_>) -> Result<Operand, AllocError>
+    ensures kind { IfOk result (λ operand. is_of_kind (given_kind given.now) (operand_seen operand) ≡ true) }
+    ensures within { IfOk result (λ operand. is_real_operand (operand_seen operand) ≡ true) }
+{
+    match given {
+        Given::Number(number) => Ok(Operand::Number(*number)),
+        Given::Path(path) => Ok(path_operand(Vec::from_slice(alloc, path.finish()?)?)),
+        Given::Flags(flags) => Ok(flags_operand(*flags)),
+        Given::Directory(asked) => Ok(Operand::Directory(*asked)),
+        Given::Rights(names) => Ok(rights_operand(names.finish()?)),
+        Given::Commands(names) => Ok(commands_operand(names.finish()?)),
     }
+}
 
-    /// A call that is given a directory's descriptor and a path.
-    pub(crate) fn beneath(
-        alloc: Global,
-        call: Call,
-        number: u32,
-        path: &[u8],
-    ) -> Result<RealCall, AllocError>
-        requires { operand_kinds (call_of call) ≡ A_number ∷ A_path ∷ [] }
-        ensures call { IfOk result (λ real. real.call ≡ call) }
-        ensures operands { IfOk result (λ real. map operand_seen real.operands.items ≡ Number number ∷ Path path.now ∷ []) }
-    {
-        let mut operands = Vec::new(alloc);
-        operands.push(Operand::Number(number))?;
-        operands.push(Operand::Path(Vec::from_slice(alloc, path)?))?;
-        Ok(RealCall { call, operands })
+/// The operands that a call is given.
+pub(crate) fn operands_of(alloc: Global, given: &[Given<'_>]) -> Result<Vec<Operand>, AllocError>
+    ensures { IfOk result (λ operands. are_of_kinds (map given_kind given.now) (map operand_seen operands.items) ≡ true) }
+{
+    let mut operands = Vec::new(alloc);
+    for one in given {
+        operands.push(operand_of(alloc, one)?)?;
     }
-
-    /// An open of a path.
-    pub(crate) fn open(alloc: Global, path: &[u8], flags: OpenFlags) -> Result<RealCall, AllocError>
-        ensures call { IfOk result (λ real. real.call ≡ Call.Open) }
-        ensures operands { IfOk result (λ real. map operand_seen real.operands.items ≡ Path path.now ∷ Flags flags ∷ []) }
-    {
-        let mut operands = Vec::new(alloc);
-        operands.push(Operand::Path(Vec::from_slice(alloc, path)?))?;
-        operands.push(Operand::Flags(flags))?;
-        Ok(RealCall {
-            call: Call::Open,
-            operands,
-        })
-    }
-
-    /// An open of a path beneath a directory.
-    pub(crate) fn openat(
-        alloc: Global,
-        number: u32,
-        path: &[u8],
-        flags: OpenFlags,
-    ) -> Result<RealCall, AllocError>
-        ensures call { IfOk result (λ real. real.call ≡ Call.Openat) }
-        ensures operands { IfOk result (λ real. map operand_seen real.operands.items ≡ Number number ∷ Path path.now ∷ Flags flags ∷ []) }
-    {
-        let mut operands = Vec::new(alloc);
-        operands.push(Operand::Number(number))?;
-        operands.push(Operand::Path(Vec::from_slice(alloc, path)?))?;
-        operands.push(Operand::Flags(flags))?;
-        Ok(RealCall {
-            call: Call::Openat,
-            operands,
-        })
-    }
-
-    /// The removal of a path.
-    pub(crate) fn unlink(
-        alloc: Global,
-        path: &[u8],
-        directory: bool,
-    ) -> Result<RealCall, AllocError>
-        ensures call { IfOk result (λ real. real.call ≡ Call.Unlink) }
-        ensures operands { IfOk result (λ real. map operand_seen real.operands.items ≡ Path path.now ∷ Directory directory ∷ []) }
-    {
-        let mut operands = Vec::new(alloc);
-        operands.push(Operand::Path(Vec::from_slice(alloc, path)?))?;
-        operands.push(Operand::Directory(directory))?;
-        Ok(RealCall {
-            call: Call::Unlink,
-            operands,
-        })
-    }
-
-    /// The removal of a path beneath a directory.
-    pub(crate) fn unlinkat(
-        alloc: Global,
-        number: u32,
-        path: &[u8],
-        directory: bool,
-    ) -> Result<RealCall, AllocError>
-        ensures call { IfOk result (λ real. real.call ≡ Call.Unlinkat) }
-        ensures operands { IfOk result (λ real. map operand_seen real.operands.items ≡ Number number ∷ Path path.now ∷ Directory directory ∷ []) }
-    {
-        let mut operands = Vec::new(alloc);
-        operands.push(Operand::Number(number))?;
-        operands.push(Operand::Path(Vec::from_slice(alloc, path)?))?;
-        operands.push(Operand::Directory(directory))?;
-        Ok(RealCall {
-            call: Call::Unlinkat,
-            operands,
-        })
-    }
-
-    /// A rename from one directory to another.
-    pub(crate) fn renameat(
-        alloc: Global,
-        number: u32,
-        path: &[u8],
-        target: u32,
-        target_path: &[u8],
-    ) -> Result<RealCall, AllocError>
-        ensures call { IfOk result (λ real. real.call ≡ Call.Renameat) }
-        ensures operands { IfOk result (λ real. map operand_seen real.operands.items ≡ Number number ∷ Path path.now ∷ Number target ∷ Path target_path.now ∷ []) }
-    {
-        let mut operands = Vec::new(alloc);
-        operands.push(Operand::Number(number))?;
-        operands.push(Operand::Path(Vec::from_slice(alloc, path)?))?;
-        operands.push(Operand::Number(target))?;
-        operands.push(Operand::Path(Vec::from_slice(alloc, target_path)?))?;
-        Ok(RealCall {
-            call: Call::Renameat,
-            operands,
-        })
-    }
+    Ok(operands)
 }

@@ -1,60 +1,57 @@
-//! A record as it is gone through: the entries so far, and what is known of the processes.
+//! A record as it is gone through: the entries so far, and what is known.
 
-ghost use Rattle.std.specs.Prelude.{◌≡◌, [], ◌∷◌, true};
+ghost use Rattle.std.specs.Prelude.{◌≡◌, [], ◌∷◌, IfOk, map, true};
 ghost use Rattle.rights.specs.Views.{call_of};
-ghost use Rattle.records.specs.Calls.{A_number, are_calls, operand_kinds};
-ghost use Rattle.records.specs.EntryViews.{calls_seen};
+ghost use Rattle.records.specs.Calls.{A_number, A_path, are_calls, is_event, operand_kinds};
+ghost use Rattle.records.specs.EntryViews.{calls_seen, event_seen};
+ghost use Rattle.records.specs.GivenViews.{given_kind};
 
-use crate::argument_values::{Mention, here_note, place_note};
-use crate::entries::{Entry, Outcome, Reason};
-use crate::held::Kept;
-use crate::logs::{Bindings, Came, Log};
+use crate::argument_values::Mention;
+use crate::entries::{Entry, Event, MadeCall, Outcome, Reason};
+use crate::known::{About, Known};
+use crate::logs::{CallName, Log, When, left_out};
 use crate::other_rights::OtherRight;
-use crate::processes::Processes;
-use crate::real_calls::RealCall;
+use crate::real_calls::{Given, operands_of};
 use crate::seen_calls::SeenCall;
-use crate::strings::unescaped;
 use rights::Call;
 use std::alloc::{AllocError, Global};
+use texts::Page;
 
 /// A record as it is gone through.
 #[derive(Drop)]
 pub(crate) struct Run {
-    pub alloc: Global,
     pub log: Log,
-    pub processes: Processes,
-}
-
-/// What a name of a call stands at.
-#[derive(Drop)]
-pub(crate) enum Target<'t> {
-    /// Beneath a directory's descriptor, by this path.
-    Beneath(Mention<'t>, Vec<u8>),
-    /// At this place.
-    Global(Vec<u8>),
+    pub known: Known,
 }
 
 impl Run {
-    /// No entry, and no process.
+    /// No entry, and nothing known.
     pub(crate) fn new(alloc: Global) -> Run {
         Run {
-            alloc,
             log: Log::new(alloc),
-            processes: Processes::new(alloc),
+            known: Known::new(alloc),
         }
     }
 
-    /// The entries.
-    pub(crate) fn into_entries(self) -> Vec<Entry>
-        ensures { are_calls (calls_seen result.items) ≡ true }
+    /// The entries, if there was memory for all.
+    pub(crate) fn into_entries(self) -> Result<Vec<Entry>, AllocError>
+        ensures { IfOk result (λ entries. are_calls (calls_seen entries.items) ≡ true) }
     {
+        if self.known.is_short {
+            return Err(AllocError);
+        }
         self.log.into_entries()
     }
 
+    /// Leaves a call of this name out.
+    pub(crate) fn omit_at(&mut self, when: When, reason: Reason, name: CallName<'_>) {
+        let event = left_out(self.known.alloc, reason, name, None);
+        self.log.add(when, event);
+    }
+
     /// Leaves a call out.
-    pub(crate) fn omit(&mut self, seen: &SeenCall<'_>, reason: Reason) -> Result<(), AllocError> {
-        self.log
-            .add_left_out(self.alloc, seen.when, reason, seen.name)
+    pub(crate) fn omit(&mut self, seen: &SeenCall<'_>, reason: Reason) {
+        self.omit_at(seen.when, reason, seen.name);
     }
 
     /// Leaves a call out that wants a right of a descriptor, which is told if it is known.
@@ -63,104 +60,76 @@ impl Run {
         seen: &SeenCall<'_>,
         right: OtherRight,
         descriptor: Option<Mention<'_>>,
-    ) -> Result<(), AllocError> {
-        match descriptor {
-            Some(mention) => {
-                self.log
-                    .add_wanted(self.alloc, seen.when, seen.name, right, mention.number)
-            }
-            None => self.omit(seen, Reason::Right),
-        }
+    ) {
+        let wanted = match descriptor {
+            Some(mention) => Some((right, mention.number)),
+            None => None,
+        };
+        let event = left_out(self.known.alloc, Reason::Right, seen.name, wanted);
+        self.log.add(seen.when, event);
     }
 
-    /// What a descriptor is.
-    pub(crate) fn bound(
+    /// A call that came to this, with what these descriptors are and how many bytes of a stream went through.
+    fn called(
         &self,
-        seen: &SeenCall<'_>,
-        mention: Mention<'_>,
-    ) -> Result<Bindings, AllocError> {
-        let mut bindings = Bindings::new(self.alloc);
-        self.processes.bind(&mut bindings, seen.process, mention)?;
-        Ok(bindings)
+        call: Call,
+        given: &[Given<'_>],
+        outcome: Outcome,
+        about: About<'_>,
+        bytes: Option<u32>,
+    ) -> Result<Event, AllocError>
+        requires { operand_kinds (call_of call) ≡ map given_kind given.now }
+        ensures { IfOk result (λ event. is_event (event_seen event) ≡ true) }
+    {
+        let operands = operands_of(self.known.alloc, given)?;
+        let bindings = self.known.bindings_of(about)?;
+        Ok(Event::Called(MadeCall {
+            call,
+            operands,
+            outcome,
+            bindings,
+            bytes,
+        }))
     }
 
-    /// What two descriptors are.
-    pub(crate) fn bound_both(
-        &self,
-        seen: &SeenCall<'_>,
-        first: Mention<'_>,
-        second: Mention<'_>,
-    ) -> Result<Bindings, AllocError> {
-        let mut bindings = self.bound(seen, first)?;
-        self.processes.bind(&mut bindings, seen.process, second)?;
-        Ok(bindings)
-    }
-
-    /// What no descriptor is.
-    pub(crate) fn unbound(&self) -> Bindings {
-        Bindings::new(self.alloc)
-    }
-
-    /// Adds a call, or leaves it out where what became of it has no counterpart.
+    /// Adds a call with what these descriptors are, or leaves it out where what became of it has no counterpart.
     pub(crate) fn add(
         &mut self,
         seen: &SeenCall<'_>,
-        real: RealCall,
+        call: Call,
+        given: &[Given<'_>],
         outcome: Option<Outcome>,
-        bindings: Bindings,
-    ) -> Result<(), AllocError> {
-        match outcome {
-            Some(outcome) => self.log.add_call(
-                seen.when,
-                real,
-                Came {
-                    outcome,
-                    bindings,
-                    bytes: None,
-                },
-            ),
-            None => self.omit(seen, Reason::Unknown),
-        }
-    }
-
-    /// Adds a call through which bytes of a stream go: so many as it answers.
-    pub(crate) fn add_streamed(
-        &mut self,
-        seen: &SeenCall<'_>,
-        real: RealCall,
-        outcome: Outcome,
-        mention: Mention<'_>,
-    ) -> Result<(), AllocError> {
-        let is_stream = self.processes.is_end(seen.process, mention);
-        let bytes = match outcome {
-            Outcome::Success(bytes) if is_stream => Some(bytes),
-            _ => None,
+        about: About<'_>,
+    )
+        requires { operand_kinds (call_of call) ≡ map given_kind given.now }
+    {
+        let Some(outcome) = outcome else {
+            return self.omit(seen, Reason::Unknown);
         };
-        let bindings = self.bound(seen, mention)?;
-        self.log.add_call(
-            seen.when,
-            real,
-            Came {
-                outcome,
-                bindings,
-                bytes,
-            },
-        )
+        let event = self.called(call, given, outcome, about, None);
+        self.log.add(seen.when, event);
     }
 
-    /// Adds a call that is given a descriptor alone.
+    /// Adds a call that is given nothing.
+    pub(crate) fn add_alone(&mut self, seen: &SeenCall<'_>, call: Call, outcome: Option<Outcome>)
+        requires { operand_kinds (call_of call) ≡ [] }
+    {
+        self.add(seen, call, &[], outcome, About::nothing());
+    }
+
+    /// Adds a call that is given a descriptor, and perhaps makes another one.
     pub(crate) fn add_on(
         &mut self,
         seen: &SeenCall<'_>,
         call: Call,
         mention: Mention<'_>,
+        made: Option<Mention<'_>>,
         outcome: Option<Outcome>,
-    ) -> Result<(), AllocError>
+    )
         requires { operand_kinds (call_of call) ≡ A_number ∷ [] }
     {
-        let real = RealCall::on(self.alloc, call, mention.number)?;
-        let bindings = self.bound(seen, mention)?;
-        self.add(seen, real, outcome, bindings)
+        let given = [Given::Number(mention.number)];
+        self.add(seen, call, &given, outcome, About::both(mention, made));
     }
 
     /// Adds a call that is given a descriptor and a number.
@@ -171,134 +140,60 @@ impl Run {
         mention: Mention<'_>,
         value: u32,
         outcome: Option<Outcome>,
-    ) -> Result<(), AllocError>
+    )
         requires { operand_kinds (call_of call) ≡ A_number ∷ A_number ∷ [] }
     {
-        let real = RealCall::with(self.alloc, call, mention.number, value)?;
-        let bindings = self.bound(seen, mention)?;
-        self.add(seen, real, outcome, bindings)
+        let given = [Given::Number(mention.number), Given::Number(value)];
+        self.add(seen, call, &given, outcome, About::one(mention));
     }
 
-    /// The place of a process's root directory: nothing where it is the first one.
-    fn root_of(&self, process: usize) -> &[u8] {
-        let Some(process) = self.processes.get(process) else {
-            return b"";
-        };
-        let Some(root) = process.root else {
-            return b"";
-        };
-        self.processes.place(root).unwrap_or(b"")
+    /// Adds a call that is given a place.
+    pub(crate) fn add_at(&mut self, seen: &SeenCall<'_>, call: Call, place: &Page)
+        requires { operand_kinds (call_of call) ≡ A_path ∷ [] }
+    {
+        let given = [Given::Path(place)];
+        self.add(seen, call, &given, seen.outcome, About::nothing());
     }
 
-    /// The place of a process's current directory, if it is known.
-    fn directory_of(&self, process: usize) -> Option<&[u8]> {
-        self.processes
-            .place(self.processes.get(process)?.directory?)
-    }
-
-    /// The place that a path beneath a place has.
-    pub(crate) fn joined(&self, place: &[u8], path: &[u8]) -> Result<Vec<u8>, AllocError> {
-        let mut joined = Vec::from_slice(self.alloc, place)?;
-        if !path.is_empty() {
-            if !ends_in_slash(place) {
-                joined.push(b'/')?;
-            }
-            joined.extend_from_slice(path)?;
-        }
-        Ok(joined)
-    }
-
-    /// The place that a path from the root of a process has.
-    fn from_root(&self, process: usize, path: Vec<u8>) -> Result<Vec<u8>, AllocError> {
-        let root = self.root_of(process);
-        if root.is_empty() {
-            return Ok(path);
-        }
-        let mut place = Vec::from_slice(self.alloc, root)?;
-        place.extend_from_slice(&path)?;
-        Ok(place)
-    }
-
-    /// The place that a path from the current directory of a process has, if that is known: by its note, or else as it was followed.
-    fn from_here(
-        &self,
-        process: usize,
-        note: &[u8],
-        path: &[u8],
-    ) -> Result<Option<Vec<u8>>, AllocError> {
-        if let Some(place) = place_note(note) {
-            let place = unescaped(self.alloc, place)?;
-            return Ok(Some(self.joined(&place, path)?));
-        }
-        match self.directory_of(process) {
-            Some(place) => Ok(Some(self.joined(place, path)?)),
-            None => Ok(None),
-        }
-    }
-
-    /// The place that a path beneath a number of a process has, if that of the number is known.
-    pub(crate) fn place_beneath(
-        &self,
-        process: usize,
-        number: u32,
-        path: &[u8],
-    ) -> Result<Option<Vec<u8>>, AllocError> {
-        match self.processes.kept(process, number) {
-            Kept::Place(place) => match self.processes.place(place) {
-                Some(place) => Ok(Some(self.joined(place, path)?)),
-                None => Ok(None),
-            },
-            _ => Ok(None),
-        }
-    }
-
-    /// What a path stands at that is counted from the current directory.
-    pub(crate) fn place_of(
-        &self,
+    /// Adds a call that is given a directory's descriptor and a path.
+    pub(crate) fn add_beneath(
+        &mut self,
         seen: &SeenCall<'_>,
-        path: usize,
-    ) -> Result<Option<Vec<u8>>, AllocError> {
-        let Some(path) = seen.string(self.alloc, path)? else {
-            return Ok(None);
-        };
-        if is_absolute(&path) {
-            return Ok(Some(self.from_root(seen.process, path)?));
-        }
-        self.from_here(seen.process, b"", &path)
+        call: Call,
+        base: Mention<'_>,
+        path: &Page,
+    )
+        requires { operand_kinds (call_of call) ≡ A_number ∷ A_path ∷ [] }
+    {
+        let given = [Given::Number(base.number), Given::Path(path)];
+        self.add(seen, call, &given, seen.outcome, About::one(base));
     }
 
-    /// What a path stands at that is counted from a directory, each being an argument.
-    pub(crate) fn target_of<'t>(
-        &self,
-        seen: &SeenCall<'t>,
-        base: usize,
-        path: usize,
-    ) -> Result<Option<Target<'t>>, AllocError> {
-        let Some(path) = seen.string(self.alloc, path)? else {
-            return Ok(None);
+    /// Adds a call through which bytes of a stream go: so many as it answers.
+    pub(crate) fn add_streamed(
+        &mut self,
+        seen: &SeenCall<'_>,
+        call: Call,
+        given: &[Given<'_>],
+        outcome: Outcome,
+        stream: Mention<'_>,
+    )
+        requires { operand_kinds (call_of call) ≡ map given_kind given.now }
+    {
+        let bytes = match outcome {
+            Outcome::Success(bytes) if self.known.is_end(stream) => Some(bytes),
+            _ => None,
         };
-        if is_absolute(&path) {
-            return Ok(Some(Target::Global(self.from_root(seen.process, path)?)));
-        }
-        if let Some(note) = here_note(seen.argument(base)) {
-            return Ok(match self.from_here(seen.process, note, &path)? {
-                Some(place) => Some(Target::Global(place)),
-                None => None,
-            });
-        }
-        match seen.mention(base) {
-            Some(mention) => Ok(Some(Target::Beneath(mention, path))),
-            None => Ok(None),
-        }
+        let event = self.called(call, given, outcome, About::one(stream), bytes);
+        self.log.add(seen.when, event);
     }
-}
 
-/// Whether a path begins at the root.
-pub(crate) fn is_absolute(path: &[u8]) -> bool {
-    matches!(path, [b'/', ..])
-}
-
-/// Whether a place ends in a slash, as the root does.
-fn ends_in_slash(place: &[u8]) -> bool {
-    matches!(place, [.., b'/'])
+    /// Adds the end of the process, if it went on before. Whether it did is told.
+    pub(crate) fn end(&mut self, when: When) -> bool {
+        let goes_on = self.known.process.end();
+        if goes_on {
+            self.log.add(when, Ok(Event::Ended));
+        }
+        goes_on
+    }
 }

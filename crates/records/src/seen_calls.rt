@@ -6,30 +6,81 @@ use crate::logs::{CallName, When};
 use crate::names::find_error;
 use crate::strace_results::{Answer, CallResult};
 use crate::strace_texts::without_spaces;
-use crate::strings::string_of;
+use crate::strings::{string_of, unescaped};
 use rights::Errno;
-use std::alloc::{AllocError, Global};
+use std::alloc::Global;
+use texts::Page;
 
 /// A call of a process.
-#[derive(Drop)]
+#[derive(Clone, Copy)]
 pub(crate) struct SeenCall<'t> {
     pub when: When,
-    /// The index of its process.
-    pub process: usize,
     /// The thread that makes it.
     pub thread: u32,
     pub name: CallName<'t>,
-    /// Its arguments, which may begin with spaces.
-    pub arguments: Vec<&'t [u8]>,
-    pub returned: CallResult<'t>,
+    /// Its arguments in one piece, and each of them, which may begin with spaces.
+    pub text: &'t [u8],
+    pub arguments: &'t [&'t [u8]],
+    /// The descriptor that it answers, where it succeeds and 32 bits hold the number.
+    pub made: Option<Mention<'t>>,
+    /// The name of the error that it fails with, or nothing.
+    pub error: &'t [u8],
+    /// What it came to, if that has a counterpart here.
+    pub outcome: Option<Outcome>,
+}
+
+/// The number that a call answers, where it succeeds, with what is noted of it.
+fn made_of(returned: CallResult<'_>) -> Option<Mention<'_>> {
+    match returned.answer {
+        Answer::Number(number) => Some(Mention {
+            number,
+            note: inside(returned.note.unwrap_or(b"")),
+        }),
+        _ => None,
+    }
+}
+
+/// What a call came to, if that has a counterpart here. Linux's EPERM has none: it is of owners.
+fn outcome_of(returned: CallResult<'_>) -> Option<Outcome> {
+    let error = returned.error.unwrap_or(b"");
+    match returned.answer {
+        Answer::Number(number) => Some(Outcome::Success(number)),
+        _ if error == b"ESPIPE".as_slice() => Some(Outcome::Failure(Errno::EINVAL)),
+        Answer::Failure if error != b"EPERM".as_slice() => {
+            Some(Outcome::Failure(find_error(error).ok()?))
+        }
+        _ => None,
+    }
 }
 
 impl<'t> SeenCall<'t> {
+    /// A call of a thread, with its arguments in one piece and in parts.
+    pub(crate) fn new(
+        when: When,
+        thread: u32,
+        name: CallName<'t>,
+        text: &'t [u8],
+        arguments: &'t [&'t [u8]],
+        returned: CallResult<'t>,
+    ) -> SeenCall<'t> {
+        SeenCall {
+            when,
+            thread,
+            name,
+            text,
+            arguments,
+            made: made_of(returned),
+            error: returned.error.unwrap_or(b""),
+            outcome: outcome_of(returned),
+        }
+    }
+
     /// The argument at this place, counted from 0: an empty one where there is none.
     pub(crate) fn argument(&self, at: usize) -> &'t [u8] {
-        match self.arguments.get(at) {
-            Some(argument) => without_spaces(argument),
-            None => b"",
+        if at < self.arguments.len() {
+            without_spaces(self.arguments[at])
+        } else {
+            b""
         }
     }
 
@@ -44,56 +95,17 @@ impl<'t> SeenCall<'t> {
     }
 
     /// The bytes of a string that an argument is.
-    pub(crate) fn string(&self, alloc: Global, at: usize) -> Result<Option<Vec<u8>>, AllocError> {
-        string_of(alloc, self.argument(at))
+    pub(crate) fn string(&self, alloc: Global, at: usize) -> Option<Page> {
+        Some(unescaped(alloc, string_of(self.argument(at))?))
     }
 
     /// The number that it answers, where it succeeds and 32 bits hold it.
     pub(crate) fn success(&self) -> Option<u32> {
-        match self.returned.answer {
-            Answer::Number(number) => Some(number),
-            _ => None,
-        }
+        Some(self.made?.number)
     }
 
-    /// The descriptor that it answers.
-    pub(crate) fn made(&self) -> Option<Mention<'t>> {
-        Some(Mention {
-            number: self.success()?,
-            note: match self.returned.note {
-                Some(note) => inside(note),
-                None => b"",
-            },
-        })
-    }
-
-    /// Whether it fails with an error of this name.
-    pub(crate) fn fails_with(&self, name: &[u8]) -> bool {
-        match self.returned.error {
-            Some(error) => error == name,
-            None => false,
-        }
-    }
-
-    /// The error that it fails with, if it is one that calls have here. Linux's EPERM is none: it is of owners.
-    pub(crate) fn error(&self) -> Option<Errno> {
-        if self.fails_with(b"ESPIPE") {
-            return Some(Errno::EINVAL);
-        }
-        if self.fails_with(b"EPERM") {
-            return None;
-        }
-        match self.returned.answer {
-            Answer::Failure => find_error(self.returned.error?).ok(),
-            _ => None,
-        }
-    }
-
-    /// What it came to, if that has a counterpart here.
-    pub(crate) fn outcome(&self) -> Option<Outcome> {
-        match self.success() {
-            Some(number) => Some(Outcome::Success(number)),
-            None => Some(Outcome::Failure(self.error()?)),
-        }
+    /// Whether it succeeds.
+    pub(crate) fn succeeds(&self) -> bool {
+        self.made.is_some()
     }
 }

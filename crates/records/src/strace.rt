@@ -1,4 +1,4 @@
-//! The lines that `strace -f` writes: what each of them tells.
+//! The lines that `strace -f` writes: what each of them tells. Those of `truss -f` are told apart by their beginning.
 
 ghost use Rattle.std.specs.Prelude.{◌≡◌, IfOk, length};
 ghost use Rattle.texts.specs.Lines.{lines_of};
@@ -7,6 +7,7 @@ use crate::argument_parts::close_of;
 use crate::strace_headers::header_of;
 use crate::strace_results::{CallResult, result_of};
 use crate::strace_texts::{after, before, is_name, number, without_spaces};
+use crate::truss::read_truss_line;
 use std::alloc::{AllocError, Global};
 use texts::{Lines, first_part};
 
@@ -56,35 +57,35 @@ pub enum Told<'t> {
     Other,
 }
 
-/// The number of a text such as `exited with 0 +++` behind its first words.
-fn number_before(text: &[u8], end: &[u8]) -> Option<u32> {
-    number(before(text, end)?)
-}
-
 /// What stands behind `+++ `: how a process ended.
 fn end_of(text: &[u8]) -> Option<Told<'_>> {
-    if let Some(rest) = after(text, b"exited with ") {
-        return Some(Told::Exited(number_before(rest, b" +++")?));
+    let text = before(text, b" +++")?;
+    if let Some(status) = after(text, b"exited with ") {
+        return Some(Told::Exited(number(status)?));
     }
-    if let Some(rest) = after(text, b"superseded by execve in pid ") {
-        return Some(Told::Superseded(number_before(rest, b" +++")?));
+    if let Some(process) = after(text, b"superseded by execve in pid ") {
+        return Some(Told::Superseded(number(process)?));
     }
-    let signal = before(after(text, b"killed by ")?, b" +++")?;
-    Some(Told::Killed(signal))
+    Some(Told::Killed(after(text, b"killed by ")?))
+}
+
+/// The arguments up to the bracket that closes them, and the result behind it.
+fn ended(text: &[u8]) -> Option<(&[u8], CallResult<'_>)> {
+    let at = close_of(text)?;
+    let returned = result_of(&text[at + 1..])?;
+    Some((&text[..at], returned))
 }
 
 /// What stands behind `<... `: the end of a call.
 fn resumed_of(text: &[u8]) -> Option<Told<'_>> {
     let (name, rest) = first_part(text, b' ');
-    let rest = after(rest?, b"resumed>")?;
-    let at = close_of(rest)?;
-    let returned = result_of(&rest[at + 1..])?;
+    let (arguments, returned) = ended(after(rest?, b"resumed>")?)?;
     if !is_name(name) {
         return None;
     }
     Some(Told::Resumed {
         name,
-        arguments: &rest[..at],
+        arguments,
         returned,
     })
 }
@@ -100,49 +101,63 @@ fn before_attached(text: &[u8]) -> Option<&[u8]> {
     None
 }
 
-/// A call that begins on the line. A remark that a process was attached may come into it: it goes on behind the remark.
+/// The arguments of a call that goes on in another line. A remark that a process was attached may come into it: it goes on behind the remark.
+fn unfinished(text: &[u8]) -> Option<&[u8]> {
+    let arguments = before(text, b" <unfinished ...>");
+    if arguments.is_some() {
+        arguments
+    } else {
+        before_attached(text)
+    }
+}
+
+/// A call that begins on the line.
 fn call_of(text: &[u8]) -> Option<Told<'_>> {
     let (name, rest) = first_part(text, b'(');
     let rest = rest?;
     if !is_name(name) {
         return None;
     }
-    if let Some(arguments) = before(rest, b" <unfinished ...>") {
+    if let Some(arguments) = unfinished(rest) {
         return Some(Told::Unfinished { name, arguments });
     }
-    if let Some(arguments) = before_attached(rest) {
-        return Some(Told::Unfinished { name, arguments });
-    }
-    let at = close_of(rest)?;
-    let returned = result_of(&rest[at + 1..])?;
+    let (arguments, returned) = ended(rest)?;
     Some(Told::Finished {
         name,
-        arguments: &rest[..at],
+        arguments,
         returned,
     })
 }
 
-/// What the text behind a header tells, if it is understood.
-fn understood(text: &[u8]) -> Option<Told<'_>> {
+/// What a text tells that is no call and no part of one, if it tells that.
+fn remarked(text: &[u8]) -> Option<Told<'_>> {
     if text.is_empty() {
         return Some(Told::Nothing);
-    }
-    if let Some(rest) = after(text, b"+++ ") {
-        return end_of(rest);
-    }
-    if let Some(rest) = after(text, b"--- ") {
-        return Some(Told::Signal(before(rest, b" ---")?));
-    }
-    if let Some(rest) = after(text, b"<... ") {
-        return resumed_of(rest);
-    }
-    if let Some(rest) = after(text, b"strace: ") {
-        return Some(Told::Remark(rest));
     }
     if text == b"<unfinished ...>".as_slice() {
         return Some(Told::Remark(text));
     }
-    call_of(text)
+    if let Some(rest) = after(text, b"strace: ") {
+        return Some(Told::Remark(rest));
+    }
+    let signal = before(after(text, b"--- ")?, b" ---")?;
+    Some(Told::Signal(signal))
+}
+
+/// What the text behind a header tells, if it is understood.
+fn understood(text: &[u8]) -> Option<Told<'_>> {
+    if let Some(rest) = after(text, b"+++ ") {
+        return end_of(rest);
+    }
+    if let Some(rest) = after(text, b"<... ") {
+        return resumed_of(rest);
+    }
+    let remarked = remarked(text);
+    if remarked.is_some() {
+        remarked
+    } else {
+        call_of(text)
+    }
 }
 
 /// What a line tells.
@@ -152,6 +167,9 @@ fn read_line(line: &[u8]) -> StraceLine<'_> {
             process: None,
             told: Told::Frame(frame),
         };
+    }
+    if let Some(told) = read_truss_line(line) {
+        return told;
     }
     let header = header_of(line);
     StraceLine {

@@ -69,7 +69,7 @@ fn short_hex(digits: &[u8]) -> Option<u32> {
 }
 
 /// The answer that a word tells.
-fn answer_of(word: &[u8]) -> Option<Answer<'_>> {
+pub(crate) fn answer_of(word: &[u8]) -> Option<Answer<'_>> {
     if word == b"?".as_slice() {
         return Some(Answer::Unknown);
     }

@@ -1,73 +1,44 @@
 //! Reads, writes and messages, as calls.
 
-use crate::argument_values::{Mention, behind, mentions_of};
+use crate::argument_values::{First, Mention, behind, first_listed, next_listed};
 use crate::entries::{Outcome, Reason};
 use crate::forms::Streaming;
-use crate::logs::Came;
-use crate::real_calls::RealCall;
+use crate::known::About;
+use crate::real_calls::Given;
 use crate::runs::Run;
 use crate::seen_calls::SeenCall;
 use rights::{Call, Errno};
-use std::alloc::AllocError;
+use texts::{first_part, read_hex};
+
+/// How many descriptors a message carries at most.
+const MOST_CARRIED: usize = 253;
 
 /// A read of a descriptor.
-fn add_read(
-    run: &mut Run,
-    seen: &SeenCall<'_>,
-    mention: Mention<'_>,
-    outcome: Outcome,
-) -> Result<(), AllocError> {
-    let real = RealCall::on(run.alloc, Call::Read, mention.number)?;
-    run.add_streamed(seen, real, outcome, mention)
+fn add_read(run: &mut Run, seen: &SeenCall<'_>, mention: Mention<'_>, outcome: Outcome) {
+    let given = [Given::Number(mention.number)];
+    run.add_streamed(seen, Call::Read, &given, outcome, mention);
 }
 
-/// A write to a descriptor.
-fn add_write(
-    run: &mut Run,
-    seen: &SeenCall<'_>,
-    mention: Mention<'_>,
-    outcome: Outcome,
-) -> Result<(), AllocError> {
-    let real = RealCall::with(run.alloc, Call::Write, mention.number, 1)?;
-    run.add_streamed(seen, real, outcome, mention)
+/// A write to a descriptor. One of no bytes has no counterpart: here each write brings a byte.
+fn add_write(run: &mut Run, seen: &SeenCall<'_>, mention: Mention<'_>, outcome: Outcome) {
+    if matches!(outcome, Outcome::Success(0)) {
+        return run.omit(seen, Reason::Unknown);
+    }
+    let given = [Given::Number(mention.number), Given::Number(1)];
+    run.add_streamed(seen, Call::Write, &given, outcome, mention);
 }
 
 /// A seek before a read or a write at an offset: whether the call gets past it.
-fn add_seek(
-    run: &mut Run,
-    seen: &SeenCall<'_>,
-    mention: Mention<'_>,
-    outcome: Outcome,
-) -> Result<bool, AllocError> {
-    let (passes, sought) = match outcome {
-        Outcome::Failure(Errno::EBADF | Errno::EINVAL) => (false, outcome),
-        _ => (true, Outcome::Success(0)),
-    };
-    run.processes.take_for_file(seen.process, mention)?;
-    run.add_with(seen, Call::Lseek, mention, 0, Some(sought))?;
-    Ok(passes)
-}
-
-/// A read or a write at an offset.
-fn add_at(
-    run: &mut Run,
-    seen: &SeenCall<'_>,
-    mention: Mention<'_>,
-    outcome: Outcome,
-    writes: bool,
-) -> Result<(), AllocError> {
-    if !add_seek(run, seen, mention, outcome)? {
-        return Ok(());
-    }
-    if writes {
-        add_write(run, seen, mention, outcome)
-    } else {
-        add_read(run, seen, mention, outcome)
-    }
+fn add_seek(run: &mut Run, seen: &SeenCall<'_>, mention: Mention<'_>, outcome: Outcome) -> bool {
+    let passes = !matches!(outcome, Outcome::Failure(Errno::EBADF | Errno::EINVAL));
+    let sought = if passes { Outcome::Success(0) } else { outcome };
+    run.known.take_for_file(mention);
+    run.add_with(seen, Call::Lseek, mention, 0, Some(sought));
+    passes
 }
 
 /// Bytes that go from one descriptor to another: a read, and a write where there were any.
-fn add_copy(run: &mut Run, seen: &SeenCall<'_>, from: usize, to: usize) -> Result<(), AllocError> {
+fn add_copy(run: &mut Run, seen: &SeenCall<'_>, from: usize, to: usize) {
     let (Some(source), Some(target), Some(count)) = (
         seen.mention(from),
         seen.mention(to),
@@ -75,18 +46,31 @@ fn add_copy(run: &mut Run, seen: &SeenCall<'_>, from: usize, to: usize) -> Resul
     ) else {
         return run.omit(seen, Reason::Unknown);
     };
-    add_read(run, seen, source, Outcome::Success(count))?;
-    if count == 0 {
-        return Ok(());
+    add_read(run, seen, source, Outcome::Success(count));
+    if count != 0 {
+        add_write(run, seen, target, Outcome::Success(count));
     }
-    add_write(run, seen, target, Outcome::Success(count))
 }
 
-/// The descriptors that a message carries.
-fn carried<'t>(run: &Run, seen: &SeenCall<'t>) -> Result<Vec<Mention<'t>>, AllocError> {
-    match behind(seen.argument(1), b"cmsg_type=SCM_RIGHTS, cmsg_data=") {
-        Some(list) => mentions_of(run.alloc, list),
-        None => Ok(Vec::new(run.alloc)),
+/// The descriptor whose first byte stands in hexadecimal digits before a comma, as truss writes the four bytes of each.
+fn first_of_bytes(text: &[u8]) -> Option<First<'_>> {
+    let (digits, _others) = first_part(text, b',');
+    let mention = Mention {
+        number: read_hex(digits, 2)?,
+        note: b"",
+    };
+    Some(First {
+        mention,
+        behind: b"]",
+    })
+}
+
+/// The first descriptor that a message carries; as truss writes it, the only one that is told.
+fn first_carried<'t>(seen: &SeenCall<'t>) -> Option<First<'t>> {
+    let message = seen.argument(1);
+    match behind(message, b"cmsg_type=SCM_RIGHTS, cmsg_data=") {
+        Some(list) => first_listed(list),
+        None => first_of_bytes(behind(message, b"type=SCM_RIGHTS,data={0x")?),
     }
 }
 
@@ -97,79 +81,66 @@ fn add_sent(
     socket: Mention<'_>,
     sent: Mention<'_>,
     outcome: Outcome,
-) -> Result<(), AllocError> {
-    let real = RealCall::sendfd(run.alloc, socket.number, sent.number, 1)?;
-    let bindings = run.bound_both(seen, socket, sent)?;
-    run.add(seen, real, Some(outcome), bindings)
+) {
+    let given = [
+        Given::Number(socket.number),
+        Given::Number(sent.number),
+        Given::Number(1),
+    ];
+    let about = About::both(socket, Some(sent));
+    run.add(seen, Call::Sendfd, &given, Some(outcome), about);
 }
 
 /// A message that is sent.
-fn add_sending(
-    run: &mut Run,
-    seen: &SeenCall<'_>,
-    socket: Mention<'_>,
-    outcome: Outcome,
-) -> Result<(), AllocError> {
-    let sent = carried(run, seen)?;
-    if sent.is_empty() {
+fn add_sending(run: &mut Run, seen: &SeenCall<'_>, socket: Mention<'_>, outcome: Outcome) {
+    let mut next = first_carried(seen);
+    if next.is_none() {
         return add_write(run, seen, socket, outcome);
     }
-    for descriptor in &sent {
-        add_sent(run, seen, socket, *descriptor, outcome)?;
+    for _ in 0..MOST_CARRIED {
+        let Some(sent) = next else {
+            break;
+        };
+        add_sent(run, seen, socket, sent.mention, outcome);
+        next = next_listed(sent.behind);
     }
-    Ok(())
 }
 
 /// The receipt of one descriptor.
-fn add_received(
-    run: &mut Run,
-    seen: &SeenCall<'_>,
-    socket: Mention<'_>,
-    received: Mention<'_>,
-) -> Result<(), AllocError> {
-    let kept = run.processes.kept_of_note(received.note)?;
+fn add_received(run: &mut Run, seen: &SeenCall<'_>, socket: Mention<'_>, received: Mention<'_>) {
+    let kept = run.known.kept_of_note(received.note);
     let closes_on_exec = seen.has(2, b"MSG_CMSG_CLOEXEC");
-    run.processes
-        .set(seen.process, received.number, kept, closes_on_exec)?;
-    let real = RealCall::on(run.alloc, Call::Recvfd, socket.number)?;
-    let bindings = run.bound_both(seen, socket, received)?;
-    run.log.add_call(
-        seen.when,
-        real,
-        Came {
-            outcome: Outcome::Success(received.number),
-            bindings,
-            bytes: None,
-        },
-    )
+    run.known.hold(received.number, kept, closes_on_exec);
+    let outcome = Some(Outcome::Success(received.number));
+    run.add_on(seen, Call::Recvfd, socket, Some(received), outcome);
 }
 
 /// A message that is received.
-fn add_receipt(
-    run: &mut Run,
-    seen: &SeenCall<'_>,
-    socket: Mention<'_>,
-    outcome: Outcome,
-) -> Result<(), AllocError> {
-    let received = carried(run, seen)?;
-    if received.is_empty() || seen.success().is_none() {
+fn add_receipt(run: &mut Run, seen: &SeenCall<'_>, socket: Mention<'_>, outcome: Outcome) {
+    let mut next = first_carried(seen);
+    if next.is_none() || !seen.succeeds() {
         return add_read(run, seen, socket, outcome);
     }
-    for descriptor in &received {
-        add_received(run, seen, socket, *descriptor)?;
+    for _ in 0..MOST_CARRIED {
+        let Some(received) = next else {
+            break;
+        };
+        add_received(run, seen, socket, received.mention);
+        next = next_listed(received.behind);
     }
-    Ok(())
 }
 
 /// Takes a call that works on the descriptor of its first argument.
-fn take_first(run: &mut Run, seen: &SeenCall<'_>, streaming: Streaming) -> Result<(), AllocError> {
-    let (Some(mention), Some(outcome)) = (seen.mention(0), seen.outcome()) else {
+fn take_first(run: &mut Run, seen: &SeenCall<'_>, streaming: Streaming) {
+    let (Some(mention), Some(outcome)) = (seen.mention(0), seen.outcome) else {
         return run.omit(seen, Reason::Unknown);
     };
+    let is_at = matches!(streaming, Streaming::ReadAt | Streaming::WriteAt);
+    if is_at && !add_seek(run, seen, mention, outcome) {
+        return;
+    }
     match streaming {
-        Streaming::ReadAt => add_at(run, seen, mention, outcome, false),
-        Streaming::Write => add_write(run, seen, mention, outcome),
-        Streaming::WriteAt => add_at(run, seen, mention, outcome, true),
+        Streaming::Write | Streaming::WriteAt => add_write(run, seen, mention, outcome),
         Streaming::SendMessage => add_sending(run, seen, mention, outcome),
         Streaming::ReceiveMessage => add_receipt(run, seen, mention, outcome),
         _ => add_read(run, seen, mention, outcome),
@@ -177,11 +148,7 @@ fn take_first(run: &mut Run, seen: &SeenCall<'_>, streaming: Streaming) -> Resul
 }
 
 /// Takes a read, a write, a copy or a message.
-pub(crate) fn take(
-    run: &mut Run,
-    seen: &SeenCall<'_>,
-    streaming: Streaming,
-) -> Result<(), AllocError> {
+pub(crate) fn take(run: &mut Run, seen: &SeenCall<'_>, streaming: Streaming) {
     match streaming {
         Streaming::SendFile => add_copy(run, seen, 1, 0),
         Streaming::Splice => add_copy(run, seen, 0, 2),

@@ -1,7 +1,8 @@
 //! The strings of a record: bytes with C's escapes.
 
 use crate::strace_texts::{after, before};
-use std::alloc::{AllocError, Global};
+use std::alloc::Global;
+use texts::Page;
 
 /// How far an escape has come.
 #[derive(Clone, Copy)]
@@ -51,77 +52,64 @@ fn hexadecimal(digit: u8) -> u8 {
     }
 }
 
-/// A text whose escapes are undone.
-#[derive(Drop)]
-struct Plain {
-    bytes: Vec<u8>,
-    escape: Escape,
+/// A byte that an escape completes, or how far the escape has come.
+#[derive(Clone, Copy)]
+enum Next {
+    Gives(u8),
+    Leads(Escape),
 }
 
-impl Plain {
-    /// Takes a byte that stands in no octal number.
-    fn take(&mut self, byte: u8) -> Result<(), AllocError> {
-        match self.escape {
-            Escape::Begun if is_octal(byte) => self.escape = Escape::Octal(octal(0, byte), 1),
-            Escape::Begun if byte == b'x' => self.escape = Escape::Lettered,
-            Escape::Begun => self.give(letter(byte))?,
-            Escape::Lettered => self.escape = Escape::Halfway(hexadecimal(byte)),
+impl Escape {
+    /// What the next byte does, which stands in no octal number.
+    fn next(self, byte: u8) -> Next {
+        match self {
+            Escape::Begun if is_octal(byte) => Next::Leads(Escape::Octal(octal(0, byte), 1)),
+            Escape::Begun if byte == b'x' => Next::Leads(Escape::Lettered),
+            Escape::Begun => Next::Gives(letter(byte)),
+            Escape::Lettered => Next::Leads(Escape::Halfway(hexadecimal(byte))),
             Escape::Halfway(value) => {
-                self.give(value.wrapping_mul(16).wrapping_add(hexadecimal(byte)))?
+                Next::Gives(value.wrapping_mul(16).wrapping_add(hexadecimal(byte)))
             }
-            _ if byte == b'\\' => self.escape = Escape::Begun,
-            _ => self.give(byte)?,
+            _ if byte == b'\\' => Next::Leads(Escape::Begun),
+            _ => Next::Gives(byte),
         }
-        Ok(())
     }
+}
 
-    /// Adds a byte, behind which no escape stands.
-    fn give(&mut self, byte: u8) -> Result<(), AllocError> {
-        self.escape = Escape::Not;
-        self.bytes.push(byte)?;
-        Ok(())
-    }
-
-    /// Takes the next byte.
-    fn next(&mut self, byte: u8) -> Result<(), AllocError> {
-        if let Escape::Octal(value, count) = self.escape {
-            if count < 3 && is_octal(byte) {
-                self.escape = Escape::Octal(octal(value, byte), count + 1);
-                return Ok(());
-            }
-            self.give(value)?;
+/// Adds what a byte gives, which stands in no octal number, behind an escape: how far the next one has come.
+fn add_byte(page: &mut Page, escape: Escape, byte: u8) -> Escape {
+    match escape.next(byte) {
+        Next::Gives(given) => {
+            page.bytes(&[given]);
+            Escape::Not
         }
-        self.take(byte)
-    }
-
-    /// The bytes, at the end of the text.
-    fn finish(mut self) -> Result<Vec<u8>, AllocError> {
-        if let Escape::Octal(value, _count) = self.escape {
-            self.give(value)?;
-        }
-        Ok(self.bytes)
+        Next::Leads(escape) => escape,
     }
 }
 
 /// The bytes of a text with C's escapes. A backslash that begins no escape stands for the byte behind it.
-pub(crate) fn unescaped(alloc: Global, text: &[u8]) -> Result<Vec<u8>, AllocError> {
-    let mut plain = Plain {
-        bytes: Vec::new(alloc),
-        escape: Escape::Not,
-    };
+pub(crate) fn unescaped(alloc: Global, text: &[u8]) -> Page {
+    let mut page = Page::new(alloc);
+    let mut escape = Escape::Not;
     for byte in text {
-        plain.next(*byte)?;
+        escape = match escape {
+            Escape::Octal(value, count) if count < 3 && is_octal(*byte) => {
+                Escape::Octal(octal(value, *byte), count + 1)
+            }
+            Escape::Octal(value, _) => {
+                page.bytes(&[value]);
+                add_byte(&mut page, Escape::Not, *byte)
+            }
+            _ => add_byte(&mut page, escape, *byte),
+        };
     }
-    plain.finish()
+    if let Escape::Octal(value, _) = escape {
+        page.bytes(&[value]);
+    }
+    page
 }
 
-/// The bytes of a string argument, if it is one and was written whole.
-pub(crate) fn string_of(alloc: Global, argument: &[u8]) -> Result<Option<Vec<u8>>, AllocError> {
-    let Some(rest) = after(argument, b"\"") else {
-        return Ok(None);
-    };
-    let Some(text) = before(rest, b"\"") else {
-        return Ok(None);
-    };
-    Ok(Some(unescaped(alloc, text)?))
+/// The text of a string argument, still with its escapes, if it is one and was written whole.
+pub(crate) fn string_of(argument: &[u8]) -> Option<&[u8]> {
+    before(after(argument, b"\"")?, b"\"")
 }

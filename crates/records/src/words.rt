@@ -44,13 +44,17 @@ pub(crate) fn take_number(words: &mut Rest<'_>) -> Result<u32, LineFault>
 fn take_operand(alloc: Global, words: &mut Rest<'_>, kind: Kind) -> Result<Operand, LineFault>
     ensures { Takes (real_operand_at (kind_seen kind)) operand_seen result words.old words.new }
 {
+    if let Kind::Directory = kind {
+        return Ok(Operand::Directory(words.take_if(b"dir")));
+    }
+    let word = words.word()?;
     match kind {
-        Kind::Number => Ok(Operand::Number(number(words.word()?)?)),
-        Kind::Path => Ok(Operand::Path(unquoted(alloc, words.word()?)?)),
-        Kind::Flags => Ok(Operand::Flags(sets::read_flags(words.word()?)?)),
-        Kind::Rights => Ok(Operand::Rights(sets::read_rights(words.word()?))),
-        Kind::Commands => Ok(Operand::Commands(sets::read_commands(words.word()?))),
-        Kind::Directory => Ok(Operand::Directory(words.take_if(b"dir"))),
+        Kind::Number => Ok(Operand::Number(number(word)?)),
+        Kind::Path => Ok(Operand::Path(unquoted(alloc, word)?)),
+        Kind::Flags => Ok(Operand::Flags(sets::read_flags(word)?)),
+        Kind::Rights => Ok(Operand::Rights(sets::read_rights(word))),
+        // A `Directory` was taken above.
+        Kind::Commands | Kind::Directory => Ok(Operand::Commands(sets::read_commands(word))),
     }
 }
 
@@ -73,11 +77,12 @@ fn take_outcome(words: &mut Rest<'_>) -> Result<Outcome, LineFault>
     ensures { Takes outcome_at outcome_seen result words.old words.new }
 {
     let mark = words.word()?;
+    let word = words.word()?;
     if mark == b"=".as_slice() {
-        return Ok(Outcome::Success(number(words.word()?)?));
+        return Ok(Outcome::Success(number(word)?));
     }
     if mark == b"!".as_slice() {
-        return Ok(Outcome::Failure(names::find_error(words.word()?)?));
+        return Ok(Outcome::Failure(names::find_error(word)?));
     }
     Err(LineFault::Form)
 }

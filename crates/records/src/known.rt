@@ -1,0 +1,249 @@
+//! What is known where a process makes a call: the process, and the places and the pairs of sockets that the record has told.
+
+ghost use Rattle.std.specs.Prelude.{◌≡◌, IfOk, IfSome, OnOk, map, true};
+ghost use Rattle.std.specs.List.{list_all};
+ghost use Rattle.records.specs.Calls.{is_binding};
+ghost use Rattle.records.specs.EntryViews.{binding_seen};
+
+use crate::argument_values::{Mention, is_device, place_note, socket_inode};
+use crate::entries::Binding;
+use crate::held::{Held, Kept, Table, WORLD};
+use crate::processes::Process;
+use crate::strings::unescaped;
+use std::alloc::{AllocError, Global};
+use std::collections::BTreeMap;
+use texts::Page;
+
+/// How long a place is that is kept, at most.
+const MAX_PLACE: usize = 4096;
+
+/// Up to two descriptors of which a call tells what they are.
+#[derive(Clone, Copy)]
+pub(crate) struct About<'t> {
+    pub first: Option<Mention<'t>>,
+    pub second: Option<Mention<'t>>,
+}
+
+impl<'t> About<'t> {
+    /// No descriptor.
+    pub(crate) fn nothing() -> About<'t> {
+        About {
+            first: None,
+            second: None,
+        }
+    }
+
+    /// This one alone.
+    pub(crate) fn one(mention: Mention<'t>) -> About<'t> {
+        About {
+            first: Some(mention),
+            second: None,
+        }
+    }
+
+    /// This one, and perhaps another one.
+    pub(crate) fn both(first: Mention<'t>, second: Option<Mention<'t>>) -> About<'t> {
+        About {
+            first: Some(first),
+            second,
+        }
+    }
+}
+
+/// What is known where a process makes a call.
+#[derive(Drop)]
+pub(crate) struct Known {
+    pub alloc: Global,
+    /// The process that makes it.
+    pub process: Process,
+    places: Vec<Page>,
+    /// How many pairs there are: 0 is the world's.
+    pairs: u32,
+    /// The ends of pairs by the numbers that the record notes.
+    ends: BTreeMap<u32, Kept>,
+    /// Whether memory was refused for something that should be known.
+    pub is_short: bool,
+}
+
+impl Known {
+    /// Nothing, and no process.
+    pub(crate) fn new(alloc: Global) -> Known {
+        Known {
+            alloc,
+            process: Process::new(0, Table::empty(alloc)),
+            places: Vec::new(alloc),
+            pairs: 0,
+            ends: BTreeMap::new(alloc),
+            is_short: false,
+        }
+    }
+
+    /// The place of a node, if it is one.
+    pub(crate) fn place_of(&self, kept: Kept) -> Option<&Page> {
+        match kept {
+            Kept::Place(number) => self.places.get(number),
+            Kept::Unknown | Kept::End(_, _) => None,
+        }
+    }
+
+    /// Keeps a place, if it isn't too long.
+    pub(crate) fn keep(&mut self, place: Page) -> Kept {
+        if place.as_bytes().len() > MAX_PLACE {
+            return Kept::Unknown;
+        }
+        let number = self.places.len();
+        if self.places.push(place).is_err() {
+            self.is_short = true;
+        }
+        Kept::Place(number)
+    }
+
+    /// The number of a new pair.
+    pub(crate) fn new_pair(&mut self) -> u32 {
+        self.pairs = self.pairs.saturating_add(1);
+        self.pairs
+    }
+
+    /// Notes which end a socket is.
+    pub(crate) fn note_end(&mut self, note: &[u8], end: Kept) {
+        if let Some(inode) = socket_inode(note) {
+            if self.ends.insert(inode, end).is_err() {
+                self.is_short = true;
+            }
+        }
+    }
+
+    /// Which end a note tells: one of the world's pair where it tells none that is known.
+    fn end_of_note(&self, note: &[u8]) -> Kept {
+        match socket_inode(note) {
+            Some(inode) => self.ends.get(&inode).copied().unwrap_or(WORLD),
+            None => WORLD,
+        }
+    }
+
+    /// What a note says of a descriptor that was not known before.
+    pub(crate) fn kept_of_note(&mut self, note: &[u8]) -> Kept {
+        match place_note(note) {
+            Some(place) => self.keep(unescaped(self.alloc, place)),
+            None if note.is_empty() => Kept::Unknown,
+            None => self.end_of_note(note),
+        }
+    }
+
+    /// What a descriptor is of, or else what its note tells.
+    pub(crate) fn kept_of(&mut self, mention: Mention<'_>) -> Kept {
+        match self.process.table.kept(mention.number) {
+            Kept::Unknown => self.kept_of_note(mention.note),
+            kept => kept,
+        }
+    }
+
+    /// Whether a descriptor is an end of a pair.
+    pub(crate) fn is_end(&self, mention: Mention<'_>) -> bool {
+        match self.process.table.kept(mention.number) {
+            Kept::End(_, _) => true,
+            Kept::Place(_) => false,
+            Kept::Unknown => is_end_note(mention.note),
+        }
+    }
+
+    /// Puts a descriptor at a number of the process.
+    pub(crate) fn hold(&mut self, number: u32, kept: Kept, closes_on_exec: bool) {
+        self.process.table.put(
+            number,
+            Some(Held {
+                kept,
+                closes_on_exec,
+            }),
+        );
+    }
+
+    /// Takes a number of the world's pair for the node that its note tells, since it has an offset.
+    pub(crate) fn take_for_file(&mut self, mention: Mention<'_>) {
+        let is_world = matches!(self.process.table.kept(mention.number), Kept::End(0, _));
+        if is_world && place_note(mention.note).is_some() && !is_device(mention.note) {
+            let kept = self.kept_of_note(mention.note);
+            self.hold(mention.number, kept, false);
+        }
+    }
+
+    /// What is told of a descriptor that is of this: an end if it is known to be one, or else if its note tells one.
+    fn told(&self, kept: Kept, note: &[u8]) -> Kept {
+        match kept {
+            Kept::Unknown | Kept::Place(_) if is_end_note(note) => self.end_of_note(note),
+            _ => kept,
+        }
+    }
+
+    /// The place that is told of a descriptor which is of this: that of its note, or else the one that is known.
+    fn told_place(&self, kept: Kept, note: &[u8]) -> Option<Page> {
+        if let Some(place) = place_note(note) {
+            return Some(unescaped(self.alloc, place));
+        }
+        let mut place = Page::new(self.alloc);
+        place.page(self.place_of(kept)?);
+        Some(place)
+    }
+
+    /// What a descriptor is, as far as it is known.
+    fn binding_of(&self, mention: Mention<'_>) -> Result<Option<Binding>, AllocError>
+        ensures { IfOk result (λ binding. IfSome binding (λ b. is_binding (binding_seen b) ≡ true)) }
+    {
+        let descriptor = mention.number;
+        let kept = self.told(self.process.table.kept(descriptor), mention.note);
+        if let Kept::End(pair, side) = kept {
+            return Ok(Some(Binding::End {
+                descriptor,
+                pair,
+                side,
+            }));
+        }
+        let Some(place) = self.told_place(kept, mention.note) else {
+            return Ok(None);
+        };
+        Ok(Some(place_binding(descriptor, place.into_bytes()?)))
+    }
+
+    /// Adds what a descriptor is, if there is one and it is known.
+    fn bind(
+        &self,
+        bindings: &mut Vec<Binding>,
+        mention: Option<Mention<'_>>,
+    ) -> Result<(), AllocError>
+        requires { list_all is_binding (map binding_seen bindings.old.items) ≡ true }
+        ensures { OnOk result (list_all is_binding (map binding_seen bindings.new.items) ≡ true) }
+    {
+        let Some(mention) = mention else {
+            return Ok(());
+        };
+        if let Some(binding) = self.binding_of(mention)? {
+            bindings.push(binding)?;
+        }
+        Ok(())
+    }
+
+    /// What descriptors are, as far as it is known.
+    pub(crate) fn bindings_of(&self, about: About<'_>) -> Result<Vec<Binding>, AllocError>
+        ensures { IfOk result (λ bindings. list_all is_binding (map binding_seen bindings.items) ≡ true) }
+    {
+        let mut bindings = Vec::new(self.alloc);
+        self.bind(&mut bindings, about.first)?;
+        self.bind(&mut bindings, about.second)?;
+        Ok(bindings)
+    }
+}
+
+/// That a descriptor is of a place.
+fn place_binding(descriptor: u32, place: Vec<u8>) -> Binding
+    ensures { is_binding (binding_seen result) ≡ true }
+{
+    Binding::Place { descriptor, place }
+}
+
+/// Whether a note tells something that is no node.
+fn is_end_note(note: &[u8]) -> bool {
+    match note {
+        [first, ..] => *first != b'/',
+        [] => false,
+    }
+}

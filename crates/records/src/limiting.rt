@@ -1,0 +1,83 @@
+//! Limits of descriptors, as calls. (own: by cap_rights_limit(2), cap_fcntls_limit(2) and what truss(1) prints of them)
+
+use crate::argument_values::Mention;
+use crate::entries::Reason;
+use crate::known::About;
+use crate::real_calls::Given;
+use crate::runs::Run;
+use crate::seen_calls::SeenCall;
+use crate::strace_texts::{after, before, without_spaces};
+use rights::Call;
+use std::alloc::Global;
+use texts::{Page, first_part};
+
+/// How many names of rights are listed at most.
+const MOST_NAMES: usize = 128;
+
+/// A name of a right or a command, as the calls here have it.
+fn spelt(name: &[u8]) -> &[u8] {
+    if name == b"RECV".as_slice() {
+        b"READ"
+    } else if name == b"SEND".as_slice() {
+        b"WRITE"
+    } else if name == b"PREAD".as_slice() {
+        b"READ,SEEK"
+    } else if name == b"PWRITE".as_slice() {
+        b"WRITE,SEEK"
+    } else {
+        name
+    }
+}
+
+/// The names in braces that an argument lists, as `{ CAP_READ,CAP_SEEK }`, without this beginning; nothing of an argument without braces.
+fn listed(alloc: Global, argument: &[u8], beginning: &[u8]) -> Option<Page> {
+    let mut rest = before(after(without_spaces(argument), b"{")?, b"}")?;
+    let mut page = Page::new(alloc);
+    for _ in 0..MOST_NAMES {
+        let (word, behind) = first_part(rest, b',');
+        let (word, _blanks) = first_part(without_spaces(word), b' ');
+        if let Some(name) = after(word, beginning) {
+            page.bytes(b",");
+            page.bytes(spelt(name));
+        }
+        let Some(behind) = behind else {
+            break;
+        };
+        rest = behind;
+    }
+    Some(page)
+}
+
+/// Takes a limit of the rights of a descriptor.
+pub(crate) fn limit_rights(run: &mut Run, seen: &SeenCall<'_>, mention: Mention<'_>) {
+    match listed(run.known.alloc, seen.argument(1), b"CAP_") {
+        Some(names) => {
+            let given = [Given::Number(mention.number), Given::Rights(&names)];
+            run.add(
+                seen,
+                Call::CapRightsLimit,
+                &given,
+                seen.outcome,
+                About::one(mention),
+            );
+        }
+        None => run.omit(seen, Reason::Unknown),
+    }
+}
+
+/// Takes a limit of the fcntl commands of a descriptor.
+pub(crate) fn limit_commands(run: &mut Run, seen: &SeenCall<'_>, mention: Mention<'_>) {
+    match listed(run.known.alloc, seen.argument(1), b"CAP_FCNTL_") {
+        Some(names) => {
+            let given = [Given::Number(mention.number), Given::Commands(&names)];
+            run.add(
+                seen,
+                Call::CapFcntlsLimit,
+                &given,
+                seen.outcome,
+                About::one(mention),
+            );
+        }
+        None => run.omit(seen, Reason::Unknown),
+    }
+}

@@ -1,0 +1,148 @@
+//! What the names of calls stand at.
+
+use crate::argument_values::{Mention, here_note, place_note};
+use crate::held::Kept;
+use crate::known::Known;
+use crate::seen_calls::SeenCall;
+use crate::strings::unescaped;
+use texts::Page;
+
+/// Which arguments of a call a name is: a path, counted from a directory if there is one, else from the current one.
+#[derive(Clone, Copy)]
+pub(crate) struct Naming {
+    pub base: Option<usize>,
+    pub path: usize,
+}
+
+/// The first argument, from the current directory.
+pub(crate) const HERE: Naming = Naming {
+    base: None,
+    path: 0,
+};
+
+/// The second argument, from the directory that the first one is.
+pub(crate) const AT: Naming = Naming {
+    base: Some(0),
+    path: 1,
+};
+
+/// The same of the new name of a rename.
+pub(crate) const NEW_HERE: Naming = Naming {
+    base: None,
+    path: 1,
+};
+
+pub(crate) const NEW_AT: Naming = Naming {
+    base: Some(2),
+    path: 3,
+};
+
+/// What a name of a call stands at: a path beneath a directory's descriptor, or a place.
+#[derive(Drop)]
+pub(crate) struct Target<'t> {
+    pub base: Option<Mention<'t>>,
+    pub path: Page,
+}
+
+/// From where a path is counted: a descriptor, or the current directory with what is noted of it.
+#[derive(Clone, Copy)]
+enum Base<'t> {
+    Here(&'t [u8]),
+    Beneath(Mention<'t>),
+}
+
+impl Naming {
+    /// From where the path is counted, if that is told.
+    fn base<'t>(self, seen: &SeenCall<'t>) -> Option<Base<'t>> {
+        let Some(base) = self.base else {
+            return Some(Base::Here(b""));
+        };
+        match here_note(seen.argument(base)) {
+            Some(note) => Some(Base::Here(note)),
+            None => Some(Base::Beneath(seen.mention(base)?)),
+        }
+    }
+}
+
+/// Whether a path begins at the root.
+fn is_absolute(path: &[u8]) -> bool {
+    matches!(path, [b'/', ..])
+}
+
+/// Whether a place ends in a slash, as the root does.
+fn ends_in_slash(place: &[u8]) -> bool {
+    matches!(place, [.., b'/'])
+}
+
+/// Adds a path to a place that it is beneath.
+fn add_beneath(place: &mut Page, path: &Page) {
+    if !path.is_empty() {
+        if !ends_in_slash(place.as_bytes()) {
+            place.bytes(b"/");
+        }
+        place.page(path);
+    }
+}
+
+impl Known {
+    /// The place that a path from the root of the process has.
+    fn from_root(&self, path: &Page) -> Page {
+        let mut place = Page::new(self.alloc);
+        if let Some(root) = self.place_of(self.process.root) {
+            place.page(root);
+        }
+        place.page(path);
+        place
+    }
+
+    /// The place that a path beneath a place has, if that is known.
+    fn beneath(&self, kept: Kept, path: &Page) -> Option<Page> {
+        let mut place = Page::new(self.alloc);
+        place.page(self.place_of(kept)?);
+        add_beneath(&mut place, path);
+        Some(place)
+    }
+
+    /// The place that a path from the current directory has, if that is known: by its note, or else as it was followed.
+    fn from_here(&self, note: &[u8], path: &Page) -> Option<Page> {
+        let Some(directory) = place_note(note) else {
+            return self.beneath(self.process.directory, path);
+        };
+        let mut place = unescaped(self.alloc, directory);
+        add_beneath(&mut place, path);
+        Some(place)
+    }
+
+    /// What a name of a call stands at, if that is known.
+    pub(crate) fn target<'t>(&self, seen: &SeenCall<'t>, naming: Naming) -> Option<Target<'t>> {
+        let path = seen.string(self.alloc, naming.path)?;
+        if is_absolute(path.as_bytes()) {
+            return Some(Target {
+                base: None,
+                path: self.from_root(&path),
+            });
+        }
+        match naming.base(seen)? {
+            Base::Beneath(mention) => Some(Target {
+                base: Some(mention),
+                path,
+            }),
+            Base::Here(note) => Some(Target {
+                base: None,
+                path: self.from_here(note, &path)?,
+            }),
+        }
+    }
+
+    /// The place of what a name stands at, if it is known.
+    pub(crate) fn place_at(&self, target: &Target<'_>) -> Option<Page> {
+        match target.base {
+            Some(base) => self.beneath(self.process.table.kept(base.number), &target.path),
+            None => {
+                let mut place = Page::new(self.alloc);
+                place.page(&target.path);
+                Some(place)
+            }
+        }
+    }
+}

@@ -1,0 +1,101 @@
+//! The lines that FreeBSD's `truss -f` writes: what each of them tells. (own: by truss(1) and its sources, and by no record of a FreeBSD)
+
+use crate::argument_parts::close_of;
+use crate::names::error_of_number;
+use crate::strace::{StraceLine, Told};
+use crate::strace_results::{Answer, CallResult, answer_of};
+use crate::strace_texts::{after, is_name, number};
+use texts::first_part;
+
+/// The text without the blanks that it begins with.
+fn without_blanks(text: &[u8]) -> &[u8] {
+    for (at, byte) in text.iter().enumerate() {
+        if *byte != b' ' && *byte != b'\t' {
+            return &text[at..];
+        }
+    }
+    &[]
+}
+
+/// What stands behind the seconds that a text may begin with.
+fn behind_seconds(text: &[u8]) -> &[u8] {
+    let (word, behind) = first_part(text, b' ');
+    let is_time = word
+        .iter()
+        .all(|byte| byte.is_ascii_digit() || *byte == b'.');
+    match behind {
+        Some(behind) if is_time && !word.is_empty() => without_blanks(behind),
+        _ => text,
+    }
+}
+
+/// What a call came to: `= 3 (0x3)`, or `ERR#2 'No such file or directory'`; nothing stands behind one that doesn't return.
+fn result_of(text: &[u8]) -> Option<CallResult<'_>> {
+    let text = without_blanks(text);
+    if text.is_empty() {
+        return Some(CallResult {
+            answer: Answer::Unknown,
+            note: None,
+            error: None,
+        });
+    }
+    if let Some(rest) = after(text, b"= ") {
+        let (word, _behind) = first_part(rest, b' ');
+        return Some(CallResult {
+            answer: answer_of(word)?,
+            note: None,
+            error: None,
+        });
+    }
+    let (digits, _behind) = first_part(after(text, b"ERR#")?, b' ');
+    Some(CallResult {
+        answer: Answer::Failure,
+        note: None,
+        error: error_of_number(number(digits)?),
+    })
+}
+
+/// A call with its result.
+fn call_of(text: &[u8]) -> Option<Told<'_>> {
+    let (name, rest) = first_part(text, b'(');
+    let rest = rest?;
+    let at = close_of(rest)?;
+    let returned = result_of(&rest[at + 1..])?;
+    if !is_name(name) {
+        return None;
+    }
+    Some(Told::Finished {
+        name,
+        arguments: &rest[..at],
+        returned,
+    })
+}
+
+/// What the text behind the process tells, if it is understood.
+fn understood(text: &[u8]) -> Option<Told<'_>> {
+    if after(text, b"<new process>").is_some() || after(text, b"<thread ").is_some() {
+        return Some(Told::Remark(text));
+    }
+    if let Some(signal) = after(text, b"SIGNAL ") {
+        return Some(Told::Signal(signal));
+    }
+    if let Some(status) = after(text, b"process exit, rval = ") {
+        return Some(Told::Exited(number(status)?));
+    }
+    if let Some(signal) = after(text, b"process killed, signal = ") {
+        return Some(Told::Killed(signal));
+    }
+    call_of(text)
+}
+
+/// What a line tells, if it begins as those of truss do: with blanks, the process and a colon.
+pub(crate) fn read_truss_line(line: &[u8]) -> Option<StraceLine<'_>> {
+    let (word, behind) = first_part(without_blanks(line), b':');
+    let process = number(word)?;
+    let text = after(behind?, b" ")?;
+    let text = behind_seconds(behind_seconds(without_blanks(text)));
+    Some(StraceLine {
+        process: Some(process),
+        told: understood(text).unwrap_or(Told::Other),
+    })
+}
