@@ -44,6 +44,10 @@ abbrev pub Shows : Plan → List Placing → RecordedCalls → Witness → Type 
 Shows plan placings calls witness = Judges plan placings calls witness true
 
 -- the events of moves
+abbrev pub event_in : Move → List Event
+event_in (Steps e shows) = e ∷ []
+event_in (Skips i) = []
+
 abbrev pub events_of : List Move → List Event
 events_of [] = []
 events_of (Steps e shows ∷ moves) = e ∷ events_of moves

@@ -1,7 +1,7 @@
 //! What may come next in a run on its way.
 
 use crate::given::{Names, call_fits};
-use crate::leads::{Lead, Search, Shown, event_of};
+use crate::leads::{Lead, Search, Trial, add_tried, code_of, event_of};
 use crate::numbers::{ProcessPair, model_of};
 use crate::outcomes::is_of_mode;
 use crate::standing::{next_entry, same_call};
@@ -36,7 +36,7 @@ fn may_show(
     };
     let names = Names {
         placings: search.placings,
-        namings: &lead.standing.namings,
+        namings: &lead.progress.standing.namings,
         process: usize::from(process),
     };
     same_call(made.call, call.call()) && call_fits(&names, &state.registers, call, &made.operands)
@@ -48,34 +48,6 @@ fn is_refusal(made: &MadeCall) -> bool {
         made.outcome,
         Outcome::Failure(Errno::ENFILE | Errno::ENOSPC | Errno::EAGAIN)
     )
-}
-
-/// Notes which process the next one is that is made, if the record's call makes one.
-fn pair_child(lead: &mut Lead<'_>, made: &MadeCall) -> Result<(), Memory> {
-    let Outcome::Success(child) = made.outcome else {
-        return Ok(());
-    };
-    if !matches!(made.call, Call::Fork) || model_of(&lead.pairs, child).is_some() {
-        return Ok(());
-    }
-    if let Ok(model) = u8::try_from(lead.machine.processes().len()) {
-        lead.pairs.push(ProcessPair { real: child, model })?;
-    }
-    Ok(())
-}
-
-/// The run in which the call of a process shows the entry of a place, if it does, and what it came to.
-pub(crate) fn shown_by<'a>(
-    search: &Search<'a>,
-    lead: &Lead<'a>,
-    event: Event,
-    made: &MadeCall,
-    at: usize,
-) -> Result<(Shown, Lead<'a>), Memory> {
-    let mut branch = lead.branch(search.alloc)?;
-    pair_child(&mut branch, made)?;
-    let shown = branch.run_call(search, event, Some(at))?;
-    Ok((shown, branch))
 }
 
 /// Adds the run in which the call of a process shows the entry of a place, and where it doesn't, those in which the world moves first.
@@ -93,17 +65,11 @@ fn add_call<'a>(
             input: 0,
             refuse: true,
         };
-        let (shown, branch) = shown_by(search, lead, event, made, at)?;
-        if matches!(shown, Shown::Yes) {
-            found.push(branch)?;
-        }
+        add_tried(search, lead, &Trial::Call { event, made, at }, found)?;
     }
-    let (shown, branch) = shown_by(search, lead, event_of(process), made, at)?;
-    if matches!(shown, Shown::Yes) {
-        found.push(branch)?;
-        return Ok(());
-    }
-    if has_world(lead) {
+    let event = event_of(process);
+    let is_shown = add_tried(search, lead, &Trial::Call { event, made, at }, found)?;
+    if !is_shown && has_world(lead) {
         let awaited = Awaited { process, made, at };
         add_by_world(search, lead, awaited, found)?;
     }
@@ -127,28 +93,13 @@ fn add_shown<'a>(
             Ok(())
         }
         (Recorded::Ended, Some(Instruction::Halt)) => {
-            let mut branch = lead.branch(search.alloc)?;
-            if branch.step(search, event_of(process), Some(at))?.is_some() {
-                found.push(branch)?;
-            }
+            let event = event_of(process);
+            let shows = Some(at);
+            add_tried(search, lead, &Trial::Step { event, shows }, found)?;
             Ok(())
         }
         _ => Ok(()),
     }
-}
-
-/// Adds the run in which the entry of a place is skipped, if it may be.
-fn add_skipped<'a>(
-    search: &Search<'a>,
-    lead: &Lead<'a>,
-    at: usize,
-    found: &mut Vec<Lead<'a>>,
-) -> Result<(), Memory> {
-    let mut branch = lead.branch(search.alloc)?;
-    if branch.skip(search, at)? {
-        found.push(branch)?;
-    }
-    Ok(())
 }
 
 /// Adds a byte, if it is one and isn't there.
@@ -251,7 +202,7 @@ fn add_other(bytes: &mut Vec<u8>) -> Result<(), Memory> {
 
 /// The bytes that are tried where one is read into a register at a point: those with which the comparisons right behind it are, and
 /// another one; where the register is handed on, those of all comparisons of the task, too.
-pub(crate) fn bytes_at(
+fn bytes_at(
     search: &Search<'_>,
     code: &[Instruction],
     point: u8,
@@ -268,6 +219,22 @@ pub(crate) fn bytes_at(
     Ok(bytes)
 }
 
+/// The bytes that are tried where a process reads one into this register.
+pub(crate) fn inputs(
+    search: &Search<'_>,
+    lead: &Lead<'_>,
+    process: u8,
+    register: Register,
+) -> Result<Vec<u8>, Memory> {
+    match lead.machine.processes().get(process as usize) {
+        Some(state) => {
+            let code = code_of(search.task, state.program);
+            bytes_at(search, code, state.point, register)
+        }
+        None => Ok(Vec::new(search.alloc)),
+    }
+}
+
 /// Adds the runs in which a process reads a byte.
 fn add_inputs<'a>(
     search: &Search<'a>,
@@ -276,23 +243,14 @@ fn add_inputs<'a>(
     register: Register,
     found: &mut Vec<Lead<'a>>,
 ) -> Result<(), Memory> {
-    let Some(state) = lead.machine.processes().get(process as usize) else {
-        return Ok(());
-    };
-    let Some(named) = search.task.programs().get(state.program as usize) else {
-        return Ok(());
-    };
-    let bytes = bytes_at(search, named.program.code(), state.point, register)?;
+    let bytes = inputs(search, lead, process, register)?;
     for input in &bytes {
-        let mut branch = lead.branch(search.alloc)?;
         let event = Event {
             process,
             input: *input,
             refuse: false,
         };
-        if branch.step(search, event, None)?.is_some() {
-            found.push(branch)?;
-        }
+        add_tried(search, lead, &Trial::Step { event, shows: None }, found)?;
     }
     Ok(())
 }
@@ -308,13 +266,8 @@ fn add_silent<'a>(
         Some(Instruction::In { register }) => add_inputs(search, lead, process, *register, found),
         Some(Instruction::Invoke { call, .. }) => {
             let call = call.call();
-            if !is_of_mode(call) && !matches!(call, Call::Read | Call::Write) {
-                return Ok(());
-            }
-            let mut branch = lead.branch(search.alloc)?;
-            let shown = branch.run_call(search, event_of(process), None)?;
-            if matches!(shown, Shown::Yes) {
-                found.push(branch)?;
+            if is_of_mode(call) || matches!(call, Call::Read | Call::Write) {
+                add_tried(search, lead, &Trial::Silent(process), found)?;
             }
             Ok(())
         }
@@ -322,17 +275,32 @@ fn add_silent<'a>(
     }
 }
 
-/// The runs that may come next, those that show a call first.
-pub(crate) fn branches<'a>(search: &Search<'a>, lead: &Lead<'a>) -> Result<Vec<Lead<'a>>, Memory> {
-    let mut found = Vec::new(search.alloc);
+/// Adds the runs that may come next by the entry of a place, those that show it first.
+fn add_next<'a>(
+    search: &Search<'a>,
+    lead: &Lead<'a>,
+    entry: &Entry,
+    at: usize,
+    found: &mut Vec<Lead<'a>>,
+) -> Result<(), Memory> {
+    let Some(process) = stand_in(&lead.progress.pairs, entry.process) else {
+        return Ok(());
+    };
+    add_shown(search, lead, process, entry, at, found)?;
+    add_tried(search, lead, &Trial::Skip(at), found)?;
+    add_silent(search, lead, process, found)
+}
+
+/// Adds the runs that may come next.
+pub(crate) fn add_branches<'a>(
+    search: &Search<'a>,
+    lead: &Lead<'a>,
+    found: &mut Vec<Lead<'a>>,
+) -> Result<(), Memory> {
     for at in 0..MOST_NEXT {
-        if let Some(entry) = next_entry(&lead.standing.left, at) {
-            if let Some(process) = stand_in(&lead.pairs, entry.process) {
-                add_shown(search, lead, process, entry, at, &mut found)?;
-                add_skipped(search, lead, at, &mut found)?;
-                add_silent(search, lead, process, &mut found)?;
-            }
+        if let Some(entry) = next_entry(&lead.progress.standing.left, at) {
+            add_next(search, lead, entry, at, found)?;
         }
     }
-    Ok(found)
+    Ok(())
 }

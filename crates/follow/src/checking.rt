@@ -7,7 +7,9 @@ ghost use Rattle.kernel.specs.Walks.{call_in};
 ghost use Rattle.kernel.specs.WellFormed.{IsWellFormed};
 ghost use Rattle.records.specs.EntryViews.{calls_seen};
 ghost use Rattle.syscalls.specs.Views.{event_of};
+ghost use Rattle.kernel.specs.Renamings.{DiffersInNumbers};
 ghost use Rattle.task.specs.Begins.{first_world};
+ghost use Rattle.task.specs.Limits.{is_plan};
 ghost use Rattle.task.specs.Plans.{code_in, programs_of_plan};
 ghost use Rattle.task.specs.Views.{programs_of};
 ghost use Rattle.simulator.specs.Machines.{machine_world};
@@ -26,6 +28,7 @@ use crate::witnesses::{Move, Witness};
 use file_tree::Tree;
 use instruction_set::{Instruction, Syscall};
 use link_tree::LinkTree;
+use process::Process;
 use records::Entry;
 use rights::Stop;
 use rights::limits::REGISTERS;
@@ -71,6 +74,13 @@ pub(crate) fn call_at(programs: &[NamedProgram], program: u8, point: u8) -> Opti
     }
 }
 
+/// A process of a machine, if it was made.
+fn process_at<'m, T: Tree>(machine: &'m Machine<'_, T>, process: u8) -> Option<&'m Process>
+    ensures { option_map (λ p. p.now) result ≡ slice_get machine.now.processes process }
+{
+    machine.processes().get(process as usize)
+}
+
 /// A process before a step, if it was made.
 fn before_step<'t, T: Tree>(
     task: &'t Task,
@@ -79,7 +89,7 @@ fn before_step<'t, T: Tree>(
 ) -> Option<Before<'t>>
     ensures { option_map before_of result ≡ option_map (before_at (programs_of_plan task.now)) (slice_get machine.now.processes process) }
 {
-    match machine.processes().get(process as usize) {
+    match process_at(machine, process) {
         None => None,
         Some(process) => Some(Before {
             registers: process.registers,
@@ -92,7 +102,7 @@ fn before_step<'t, T: Tree>(
 fn second_in<T: Tree>(machine: &Machine<'_, T>, process: u8) -> u32
     ensures { result ≡ second_in (slice_get machine.now.processes process) }
 {
-    match machine.processes().get(process as usize) {
+    match process_at(machine, process) {
         None => 0,
         Some(process) => process.registers[1],
     }
@@ -176,6 +186,31 @@ fn make_move<T: Tree>(
     }
 }
 
+/// Makes moves one after another. Whether they may be, and all is shown then, is told.
+fn make_moves(
+    alloc: Global,
+    setting: &Setting<'_>,
+    standing: &mut Standing<'_>,
+    machine: &mut Machine<'_, LinkTree>,
+    moves: &[Move],
+) -> Result<bool, Stop>
+    requires runs_on { machine.old.spent ≡ false }
+    requires plan { machine.old.plan ≡ setting.now.task.now }
+    requires valid { is_plan setting.now.task.now ≡ true }
+    requires well_formed { IsWellFormed (programs_of_plan setting.now.task.now) (machine_world machine.old) }
+    requires world { DiffersInNumbers (first_world setting.now.task.now) (machine_world machine.old) }
+    ensures verdict { IfOk result (Judged (setting_of setting.now) (first_world setting.now.task.now) (Some (standing_of standing.old)) (moves_of moves.now)) }
+    ensures run { IfOk result (λ is. is ≡ true → HasRun setting.now.task.now (events_of (moves_of moves.now))) }
+    ensures memory { OnErr result (IsErrOf result Stop.Memory) }
+{
+    for step in moves {
+        if !make_move(alloc, setting, standing, machine, *step)? {
+            return Ok(false);
+        }
+    }
+    Ok(standing.is_at_end())
+}
+
 /// Whether moves are a run of the task that shows the calls of a record.
 fn shows_by(
     alloc: Global,
@@ -192,12 +227,7 @@ fn shows_by(
         return Ok(false);
     };
     let mut machine: Machine<'_, LinkTree> = Machine::start(alloc, setting.task)?;
-    for step in moves {
-        if !make_move(alloc, setting, &mut standing, &mut machine, *step)? {
-            return Ok(false);
-        }
-    }
-    Ok(standing.is_at_end())
+    make_moves(alloc, setting, &mut standing, &mut machine, moves)
 }
 
 /// Whether the moves of a witness are a run of the task that shows the calls of a record. Where they are, the task has a run of their

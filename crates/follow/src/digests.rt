@@ -96,7 +96,7 @@ pub(crate) fn digest_of(lead: &Lead<'_>) -> Digest {
         first: 0x243F_6A88_85A3_08D3,
         second: 0x1319_8A2E_0370_7344,
     };
-    digest.add_left(&lead.standing.left);
+    digest.add_left(&lead.progress.standing.left);
     for (number, process) in lead.machine.processes().iter().enumerate() {
         if number >= MAX_PROCESSES {
             break;

@@ -1,14 +1,15 @@
 //! The search for a run of a task that shows the calls of a record.
 
-ghost use Rattle.std.specs.Prelude.{IfOk};
+ghost use Rattle.std.specs.Prelude.{IfOk, IfSome};
 ghost use Rattle.records.specs.EntryViews.{calls_seen};
 ghost use Rattle.follow.specs.FollowedViews.{IsFollowed};
-ghost use Rattle.follow.specs.Views.{placings_of};
+ghost use Rattle.follow.specs.Shows.{IsShown};
+ghost use Rattle.follow.specs.Views.{placings_of, witness_of};
 
-use crate::branching::{branches, stand_in};
+use crate::branching::{add_branches, stand_in};
 use crate::checking::shows;
 use crate::digests::{Digest, digest_of};
-use crate::leads::{Lead, Search, event_of};
+use crate::leads::{Lead, Progress, Search, add_branch, drop_last, event_of};
 use crate::numbers::ProcessPair;
 use crate::places::Placing;
 use crate::standing::{Standing, has_limiting};
@@ -65,12 +66,24 @@ pub enum Followed {
     Parts(Parted),
 }
 
+/// What going on to a run comes to.
+#[derive(Clone, Copy)]
+enum Arrival {
+    /// The run shows all.
+    AtEnd,
+    /// Such a run was met before.
+    Met,
+    New,
+}
+
 /// The search on its way.
 #[derive(Drop)]
 struct Trail<'a> {
     /// The runs that may be gone on with, and the moves of the way to the last one that was.
     leads: Vec<Lead<'a>>,
     way: Vec<Move>,
+    /// The runs that come next behind that one.
+    next: Vec<Lead<'a>>,
     met: IndexSet<Digest>,
     /// How many entries were left where most were shown, the first one of them, and the points there.
     fewest: usize,
@@ -119,103 +132,198 @@ fn first_pairs(alloc: Global, task: &Task, entries: &[Entry]) -> Result<Vec<Proc
     Ok(pairs)
 }
 
-/// What the process of an entry would do.
-fn point_of(search: &Search<'_>, lead: &Lead<'_>, process: u8) -> Result<Option<AtPoint>, Memory> {
-    let Some(state) = lead.machine.processes().get(process as usize) else {
-        return Ok(None);
+/// What a process does next in the last run, from its names to the end of its call.
+fn outcome_in_last<'a>(process: u8, found: &mut Vec<Lead<'a>>) -> Result<LineResult, Memory> {
+    let mut outcome = LineResult::Ended;
+    let Some(lead) = found.last_mut() else {
+        return Ok(outcome);
     };
-    let mut at = AtPoint {
+    for _ in 0..MOST_LOOKUPS {
+        let Some(next) = outcome_of_step(lead, process)? else {
+            break;
+        };
+        outcome = next;
+        if !matches!(outcome, LineResult::Walking) {
+            break;
+        }
+    }
+    Ok(outcome)
+}
+
+/// What a process does in one step.
+fn outcome_of_step(lead: &mut Lead<'_>, process: u8) -> Result<Option<LineResult>, Memory> {
+    match lead.machine.step(event_of(process)) {
+        Ok(line) => Ok(match line.acted {
+            Some(acted) => Some(acted.outcome),
+            None => None,
+        }),
+        Err(_) => Err(Memory),
+    }
+}
+
+/// Where a process stands, with what it would do.
+fn point_of(lead: &Lead<'_>, process: u8, outcome: LineResult) -> Option<AtPoint> {
+    let state = lead.machine.processes().get(process as usize)?;
+    Some(AtPoint {
         process,
         program: state.program,
         point: state.point,
         in_mode: state.mode(),
-        outcome: LineResult::Ended,
-    };
-    let mut branch = lead.branch(search.alloc)?;
-    for _ in 0..MOST_LOOKUPS {
-        let Ok(line) = branch.machine.step(event_of(process)) else {
-            return Err(Memory);
-        };
-        let Some(acted) = line.acted else {
-            break;
-        };
-        at.outcome = acted.outcome;
-        if !matches!(acted.outcome, LineResult::Walking) {
-            break;
-        }
+        outcome,
+    })
+}
+
+/// Adds a point that isn't there.
+fn add_point(points: &mut Vec<AtPoint>, point: AtPoint) -> Result<(), Memory> {
+    if !points.contains(&point) {
+        points.push(point)?;
     }
-    Ok(Some(at))
+    Ok(())
 }
 
 impl<'a> Trail<'a> {
-    /// Notes how far a run has come, if none has come further.
-    fn reach(&mut self, lead: &Lead<'a>) {
-        let left = lead.standing.left.len();
-        if left < self.fewest || self.first_left.is_none() {
-            self.points.clear();
-            self.fewest = left;
-            self.first_left = lead.standing.left.first().copied();
+    /// Before the first state.
+    fn new(alloc: Global, entries: &[Entry]) -> Trail<'a> {
+        Trail {
+            leads: Vec::new(alloc),
+            way: Vec::new(alloc),
+            next: Vec::new(alloc),
+            met: IndexSet::new(alloc),
+            fewest: entries.len(),
+            first_left: None,
+            points: Vec::new(alloc),
         }
     }
 
-    /// Notes the point at which the process of the first entry that is left stands, if the run has come as far as any.
-    fn note(&mut self, search: &Search<'a>, lead: &Lead<'a>) -> Result<(), Memory> {
-        let Some(entry) = lead.standing.left.first() else {
+    /// Begins with a run of no moves.
+    fn begin(&mut self, search: &Search<'a>, progress: Progress<'a>) -> Result<(), Memory> {
+        let Ok(machine) = Machine::<'_, LinkTree>::start(search.alloc, search.task) else {
+            return Err(Memory);
+        };
+        self.leads.push(Lead { machine, progress })?;
+        Ok(())
+    }
+
+    /// Goes on to the last run: up to where each process makes its next call.
+    fn settle(&mut self, search: &Search<'a>) -> Result<(), Memory> {
+        let Some(lead) = self.leads.last_mut() else {
             return Ok(());
         };
-        if lead.standing.left.len() > self.fewest || self.points.len() >= MOST_POINTS {
+        lead.settle(search)?;
+        self.way.truncate(lead.progress.base);
+        self.way.extend_from_slice(&lead.progress.moves)?;
+        lead.progress.moves.clear();
+        Ok(())
+    }
+
+    /// Whether the last run shows all, or such a run was met.
+    fn arrive(&mut self) -> Result<Arrival, Memory> {
+        let Some(lead) = self.leads.last() else {
+            return Ok(Arrival::Met);
+        };
+        if lead.progress.standing.is_at_end() {
+            return Ok(Arrival::AtEnd);
+        }
+        let (_, is_new) = self.met.insert_full(digest_of(lead))?;
+        Ok(if is_new { Arrival::New } else { Arrival::Met })
+    }
+
+    /// Notes how far the last run has come, if none has come further.
+    fn reach(&mut self) {
+        let Some(lead) = self.leads.last() else {
+            return;
+        };
+        let left = &lead.progress.standing.left;
+        if left.len() < self.fewest || self.first_left.is_none() {
+            self.points.clear();
+            self.fewest = left.len();
+            self.first_left = left.first().copied();
+        }
+    }
+
+    /// Which process of the last run shows the first entry that is left, if the run has come as far as any.
+    fn awaited(&self) -> Option<u8> {
+        let lead = self.leads.last()?;
+        let left = &lead.progress.standing.left;
+        if left.len() > self.fewest || self.points.len() >= MOST_POINTS {
+            return None;
+        }
+        stand_in(&lead.progress.pairs, left.first()?.process)
+    }
+
+    /// Notes the point at which a process of the last run stands.
+    fn note(&mut self, search: &Search<'a>, process: u8) -> Result<(), Memory> {
+        let Some(lead) = self.leads.last() else {
+            return Ok(());
+        };
+        add_branch(search, lead, &mut self.next)?;
+        let outcome = outcome_in_last(process, &mut self.next)?;
+        drop_last(&mut self.next);
+        match point_of(lead, process, outcome) {
+            Some(point) => add_point(&mut self.points, point),
+            None => Ok(()),
+        }
+    }
+
+    /// Adds the runs that come next behind the last one, or notes where it stands.
+    fn branch(&mut self, search: &Search<'a>) -> Result<(), Memory> {
+        self.reach();
+        let Some(lead) = self.leads.last() else {
+            return Ok(());
+        };
+        add_branches(search, lead, &mut self.next)?;
+        if !self.next.is_empty() {
             return Ok(());
         }
-        if let Some(process) = stand_in(&lead.pairs, entry.process) {
-            if let Some(point) = point_of(search, lead, process)? {
-                if !self.points.contains(&point) {
-                    self.points.push(point)?;
-                }
-            }
+        match self.awaited() {
+            Some(process) => self.note(search, process),
+            None => Ok(()),
+        }
+    }
+
+    /// Takes the last of the runs that come next, which begins where the way is now.
+    fn take_next(&mut self) -> Result<(), Memory> {
+        if let Some(lead) = self.next.pop() {
+            self.leads.push(lead)?;
+        }
+        if let Some(lead) = self.leads.last_mut() {
+            lead.progress.base = self.way.len();
         }
         Ok(())
+    }
+
+    /// Keeps one of the runs that come next, the last one: the first of them always, and others only while there are few.
+    fn keep_one(&mut self) -> Result<(), Memory> {
+        if self.next.len() == 1 || self.leads.len() < MOST_KEPT {
+            self.take_next()
+        } else {
+            drop_last(&mut self.next);
+            Ok(())
+        }
     }
 
     /// Keeps the runs that come next, the first of them to be gone on with first.
-    fn keep(&mut self, mut next: Vec<Lead<'a>>) -> Result<(), Memory> {
-        let base = self.way.len();
-        for _ in 0..next.len() {
-            if let Some(mut lead) = next.pop() {
-                if next.is_empty() || self.leads.len() < MOST_KEPT {
-                    lead.base = base;
-                    self.leads.push(lead)?;
-                }
-            }
+    fn keep(&mut self) -> Result<(), Memory> {
+        for _ in 0..self.next.len() {
+            self.keep_one()?;
         }
         Ok(())
     }
 
-    /// Goes on with the last run. Whether it shows all is told, or that there is none, or that it goes on.
-    fn go_on(&mut self, search: &Search<'a>) -> Result<Option<Vec<ProcessPair>>, Memory> {
-        let Some(mut lead) = self.leads.pop() else {
-            return Ok(None);
-        };
-        lead.settle(search)?;
-        self.way.truncate(lead.base);
-        self.way.extend_from_slice(&lead.moves)?;
-        lead.moves.clear();
-        if lead.standing.is_at_end() {
-            return Ok(Some(lead.pairs));
+    /// Goes on with the last run. Whether it shows all is told.
+    fn go_on(&mut self, search: &Search<'a>) -> Result<bool, Memory> {
+        self.settle(search)?;
+        match self.arrive()? {
+            Arrival::AtEnd => return Ok(true),
+            Arrival::Met => {}
+            Arrival::New => self.branch(search)?,
         }
-        let (_, is_new) = self.met.insert_full(digest_of(&lead))?;
-        if !is_new {
-            return Ok(None);
-        }
-        self.reach(&lead);
-        let next = branches(search, &lead)?;
-        if next.is_empty() {
-            self.note(search, &lead)?;
-        }
-        self.keep(next)?;
-        Ok(None)
+        drop_last(&mut self.leads);
+        self.keep()?;
+        Ok(false)
     }
 
-    /// Searches over at most so many states.
+    /// Searches over at most so many states: the processes of the run that shows all, if one is found.
     fn search(
         &mut self,
         search: &Search<'a>,
@@ -225,12 +333,29 @@ impl<'a> Trail<'a> {
             if self.leads.is_empty() {
                 break;
             }
-            let found = self.go_on(search)?;
-            if found.is_some() {
-                return Ok(found);
+            if self.go_on(search)? {
+                return Ok(self.take_pairs());
             }
         }
         Ok(None)
+    }
+
+    /// How far it has come that found nothing.
+    fn parted(self, entries: &[Entry]) -> Parted {
+        Parted {
+            entry: place_of(entries, self.first_left),
+            points: self.points,
+            states: self.met.len(),
+            is_bounded: !self.leads.is_empty(),
+        }
+    }
+
+    /// Takes the last run away, for its processes.
+    fn take_pairs(&mut self) -> Option<Vec<ProcessPair>> {
+        match self.leads.pop() {
+            Some(lead) => Some(lead.into_pairs()),
+            None => None,
+        }
     }
 }
 
@@ -250,31 +375,63 @@ fn place_of(entries: &[Entry], sought: Option<&Entry>) -> usize {
     0
 }
 
-/// The search at its beginning.
-fn begin<'a>(search: &Search<'a>, entries: &'a [Entry]) -> Result<Trail<'a>, Memory> {
-    let alloc = search.alloc;
-    let pairs = first_pairs(alloc, search.task, entries)?;
-    let mut leads = Vec::new(alloc);
-    if let Some(standing) = Standing::first(alloc, search.task, &pairs, entries)? {
-        let Ok(machine) = Machine::<'_, LinkTree>::start(alloc, search.task) else {
-            return Err(Memory);
-        };
-        leads.push(Lead {
-            machine,
-            standing,
-            pairs,
-            moves: Vec::new(alloc),
-            base: 0,
-        })?;
+/// How far a run has come that has no moves, unless some process of it stands for two, or two for one.
+fn first_progress<'a>(
+    search: &Search<'a>,
+    entries: &'a [Entry],
+) -> Result<Option<Progress<'a>>, Memory> {
+    let pairs = first_pairs(search.alloc, search.task, entries)?;
+    let Some(standing) = Standing::first(search.alloc, search.task, &pairs, entries)? else {
+        return Ok(None);
+    };
+    Ok(Some(Progress {
+        standing,
+        pairs,
+        moves: Vec::new(search.alloc),
+        base: 0,
+    }))
+}
+
+/// Searches from the beginning, over at most so many states: the run that shows all, if one is found.
+fn sought<'a>(
+    trail: &mut Trail<'a>,
+    search: &Search<'a>,
+    entries: &'a [Entry],
+    bound: usize,
+) -> Result<Option<Witness>, Memory> {
+    if let Some(progress) = first_progress(search, entries)? {
+        trail.begin(search, progress)?;
     }
-    Ok(Trail {
-        leads,
-        way: Vec::new(alloc),
-        met: IndexSet::new(alloc),
-        fewest: entries.len(),
-        first_left: None,
-        points: Vec::new(alloc),
-    })
+    let Some(pairs) = trail.search(search, bound)? else {
+        return Ok(None);
+    };
+    let moves = mem::replace(&mut trail.way, Vec::new(search.alloc));
+    Ok(Some(Witness { pairs, moves }))
+}
+
+/// The same, checked by `shows`.
+fn checked<'a>(
+    trail: &mut Trail<'a>,
+    search: &Search<'a>,
+    entries: &'a [Entry],
+    bound: usize,
+) -> Result<Option<Witness>, Memory>
+    ensures { IfOk result (λ witness. IfSome witness (λ it. IsShown search.now.task.now (placings_of search.now.placings.now) (calls_seen entries.now) (witness_of it))) }
+{
+    let Some(witness) = sought(trail, search, entries, bound)? else {
+        return Ok(None);
+    };
+    match shows(
+        search.alloc,
+        search.task,
+        search.placings,
+        entries,
+        &witness,
+    ) {
+        Err(_) => Err(Memory),
+        Ok(true) => Ok(Some(witness)),
+        Ok(false) => Ok(None),
+    }
 }
 
 /// Searches a run of the task that shows the calls of a record, over at most so many states. The processes of the record that none of its
@@ -295,20 +452,9 @@ pub fn follow<'a>(
         placings,
         limited: has_limiting(entries),
     };
-    let mut trail = begin(&search, entries)?;
-    if let Some(pairs) = trail.search(&search, bound)? {
-        let moves = mem::replace(&mut trail.way, Vec::new(alloc));
-        let witness = Witness { pairs, moves };
-        match shows(alloc, task, placings, entries, &witness) {
-            Err(_) => return Err(Memory),
-            Ok(true) => return Ok(Followed::Follows(witness)),
-            Ok(false) => {}
-        }
+    let mut trail = Trail::new(alloc, entries);
+    match checked(&mut trail, &search, entries, bound)? {
+        Some(witness) => Ok(Followed::Follows(witness)),
+        None => Ok(Followed::Parts(trail.parted(entries))),
     }
-    Ok(Followed::Parts(Parted {
-        entry: place_of(entries, trail.first_left),
-        points: mem::replace(&mut trail.points, Vec::new(alloc)),
-        states: trail.met.len(),
-        is_bounded: !trail.leads.is_empty(),
-    }))
 }

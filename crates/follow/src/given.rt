@@ -170,15 +170,15 @@ fn rest_fits(
             let given = [Given::Commands(*commands)];
             all_fit(names, operands, &given)
         }
-        Syscall::Open { .. } | Syscall::Openat { .. } | Syscall::Stat { .. } => {
-            paths_fit(names, registers, call, operands)
-        }
-        Syscall::Mkdir { .. } | Syscall::Fstatat { .. } | Syscall::Mkdirat { .. } => {
-            paths_fit(names, registers, call, operands)
-        }
-        Syscall::Unlink { .. } | Syscall::Unlinkat { .. } | Syscall::Renameat { .. } => {
-            paths_fit(names, registers, call, operands)
-        }
+        Syscall::Open { .. }
+        | Syscall::Openat { .. }
+        | Syscall::Stat { .. }
+        | Syscall::Mkdir { .. }
+        | Syscall::Fstatat { .. }
+        | Syscall::Mkdirat { .. }
+        | Syscall::Unlink { .. }
+        | Syscall::Unlinkat { .. }
+        | Syscall::Renameat { .. } => paths_fit(names, registers, call, operands),
         _ => all_fit(names, operands, &[]),
     }
 }

@@ -23,4 +23,4 @@ pub use checking::shows;
 pub use following::{AtPoint, Followed, Parted, follow};
 pub use numbers::ProcessPair;
 pub use places::Placing;
-pub use witnesses::{Move, Witness};
+pub use witnesses::{Move, Witness, events_of};

@@ -1,8 +1,8 @@
 //! What the processes of the task do that the record doesn't have.
 
-use crate::branching::{bytes_at, shown_by};
+use crate::branching::inputs;
 use crate::digests::{Digest, digest_of};
-use crate::leads::{Lead, Search, Shown, event_of};
+use crate::leads::{Lead, Search, Trial, add_branch, add_tried, drop_last, event_of};
 use crate::numbers::is_recorded;
 use indexmap::IndexSet;
 use instruction_set::Instruction;
@@ -22,31 +22,18 @@ const MOST_FOUND: usize = 4;
 fn is_of_world(lead: &Lead<'_>, number: usize) -> bool {
     match lead.machine.processes().get(number) {
         None => false,
-        Some(process) => process.alive && !is_recorded(&lead.pairs, number),
+        Some(process) => process.alive && !is_recorded(&lead.progress.pairs, number),
     }
 }
 
 /// Whether there is a process that the record doesn't have.
 pub(crate) fn has_world(lead: &Lead<'_>) -> bool {
-    (0..MAX_PROCESSES).any(|number| is_of_world(lead, number))
-}
-
-/// Adds the run in which the world does this, unless nothing comes of it.
-fn add_event<'a>(
-    search: &Search<'a>,
-    lead: &Lead<'a>,
-    event: Event,
-    next: &mut Vec<Lead<'a>>,
-) -> Result<(), Memory> {
-    let mut branch = lead.branch(search.alloc)?;
-    match branch.step(search, event, None)? {
-        None | Some(LineResult::Waiting | LineResult::Ended) => {}
-        Some(_) => {
-            branch.run_plain(search, event.process)?;
-            next.push(branch)?;
+    for number in 0..MAX_PROCESSES {
+        if is_of_world(lead, number) {
+            return true;
         }
     }
-    Ok(())
+    false
 }
 
 /// Adds the runs in which a process of the world moves.
@@ -57,35 +44,33 @@ fn add_moves<'a>(
     next: &mut Vec<Lead<'a>>,
 ) -> Result<(), Memory> {
     let Some(Instruction::In { register }) = lead.instruction(search.task, process) else {
-        return add_event(search, lead, event_of(process), next);
-    };
-    let Some(state) = lead.machine.processes().get(process as usize) else {
+        add_tried(search, lead, &Trial::World(event_of(process)), next)?;
         return Ok(());
     };
-    let Some(named) = search.task.programs().get(state.program as usize) else {
-        return Ok(());
-    };
-    let bytes = bytes_at(search, named.program.code(), state.point, *register)?;
+    let bytes = inputs(search, lead, process, *register)?;
     for input in &bytes {
         let event = Event {
             process,
             input: *input,
             refuse: false,
         };
-        add_event(search, lead, event, next)?;
+        add_tried(search, lead, &Trial::World(event), next)?;
     }
     Ok(())
 }
 
-/// The runs in which the world moves once.
-fn moved<'a>(search: &Search<'a>, run: &Lead<'a>) -> Result<Vec<Lead<'a>>, Memory> {
-    let mut next = Vec::new(search.alloc);
+/// Adds the runs in which the world moves once.
+fn add_moved<'a>(
+    search: &Search<'a>,
+    run: &Lead<'a>,
+    next: &mut Vec<Lead<'a>>,
+) -> Result<(), Memory> {
     for number in 0..MAX_PROCESSES as u8 {
         if is_of_world(run, usize::from(number)) {
-            add_moves(search, run, number, &mut next)?;
+            add_moves(search, run, number, next)?;
         }
     }
-    Ok(next)
+    Ok(())
 }
 
 /// What a process is to do once the world has moved.
@@ -101,29 +86,62 @@ pub(crate) struct Awaited<'m> {
 struct Moving<'a> {
     met: IndexSet<Digest>,
     runs: Vec<Lead<'a>>,
+    /// The runs that come next, the last of them first.
+    next: Vec<Lead<'a>>,
     helped: usize,
 }
 
 impl<'a> Moving<'a> {
-    /// Keeps a run in which the world has moved, unless it was met, and adds the run in which the call then shows the entry.
-    fn keep(
+    /// Takes the next run.
+    fn take_next(&mut self) -> Result<(), Memory> {
+        if let Some(run) = self.next.pop() {
+            self.runs.push(run)?;
+        }
+        Ok(())
+    }
+
+    /// Notes that the last run is met. Whether it wasn't before is told.
+    fn meet(&mut self) -> Result<bool, Memory> {
+        let Some(run) = self.runs.last() else {
+            return Ok(false);
+        };
+        let (_, is_new) = self.met.insert_full(digest_of(run))?;
+        Ok(is_new)
+    }
+
+    /// Adds the run in which the call of a process shows the entry behind the last run, if it does.
+    fn help(
         &mut self,
         search: &Search<'a>,
-        run: Lead<'a>,
         awaited: Awaited<'_>,
         found: &mut Vec<Lead<'a>>,
     ) -> Result<(), Memory> {
-        let (_, is_new) = self.met.insert_full(digest_of(&run))?;
-        if !is_new {
+        let Some(run) = self.runs.last() else {
             return Ok(());
-        }
-        let event = event_of(awaited.process);
-        let (shown, branch) = shown_by(search, &run, event, awaited.made, awaited.at)?;
-        if matches!(shown, Shown::Yes) {
-            found.push(branch)?;
+        };
+        let trial = Trial::Call {
+            event: event_of(awaited.process),
+            made: awaited.made,
+            at: awaited.at,
+        };
+        if add_tried(search, run, &trial, found)? {
             self.helped = self.helped.wrapping_add(1);
         }
-        self.runs.push(run)?;
+        Ok(())
+    }
+
+    /// Sees whether the last run helps, unless it was met before, and is dropped.
+    fn go_to_last(
+        &mut self,
+        search: &Search<'a>,
+        awaited: Awaited<'_>,
+        found: &mut Vec<Lead<'a>>,
+    ) -> Result<(), Memory> {
+        if self.meet()? {
+            self.help(search, awaited, found)?;
+        } else {
+            drop_last(&mut self.runs);
+        }
         Ok(())
     }
 
@@ -135,16 +153,30 @@ impl<'a> Moving<'a> {
         awaited: Awaited<'_>,
         found: &mut Vec<Lead<'a>>,
     ) -> Result<bool, Memory> {
-        let Some(run) = self.runs.get(place) else {
+        if place >= self.runs.len() {
             return Ok(false);
-        };
-        let mut next = moved(search, run)?;
-        for _ in 0..next.len() {
-            if let Some(run) = next.pop() {
-                self.keep(search, run, awaited, found)?;
-            }
+        }
+        add_moved(search, &self.runs[place], &mut self.next)?;
+        for _ in 0..self.next.len() {
+            self.take_next()?;
+            self.go_to_last(search, awaited, found)?;
         }
         Ok(true)
+    }
+
+    /// Goes on by breadth, until enough moves help or there are none.
+    fn search(
+        &mut self,
+        search: &Search<'a>,
+        awaited: Awaited<'_>,
+        found: &mut Vec<Lead<'a>>,
+    ) -> Result<(), Memory> {
+        for place in 0..MOST_STEPS {
+            if !self.go_on(search, place, awaited, found)? || self.helped >= MOST_FOUND {
+                break;
+            }
+        }
+        Ok(())
     }
 }
 
@@ -155,18 +187,12 @@ pub(crate) fn add_by_world<'a>(
     awaited: Awaited<'_>,
     found: &mut Vec<Lead<'a>>,
 ) -> Result<(), Memory> {
-    let mut runs = Vec::new(search.alloc);
-    let first = lead.branch(search.alloc)?;
-    runs.push(first)?;
     let mut moving = Moving {
         met: IndexSet::new(search.alloc),
-        runs,
+        runs: Vec::new(search.alloc),
+        next: Vec::new(search.alloc),
         helped: 0,
     };
-    for place in 0..MOST_STEPS {
-        if !moving.go_on(search, place, awaited, found)? || moving.helped >= MOST_FOUND {
-            break;
-        }
-    }
-    Ok(())
+    add_branch(search, lead, &mut moving.runs)?;
+    moving.search(search, awaited, found)
 }
