@@ -1,8 +1,8 @@
 //! Capwhy, the program: it answers what its words ask with the files of the system, standard output and standard error.
 #![tactic(auto)]
 
+use answers::{NAME, serve};
 use console::{ClosedPipe, Console, Session};
-use explain::{NAME, serve};
 use explore::{HowFar, Watcher};
 use rights::write_all;
 use std::io::{ErrorKind, IsTerminal, Write};

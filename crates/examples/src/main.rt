@@ -123,7 +123,7 @@ fn asked(rt: &HostRuntime, why: bool, words: &[String], found: Option<&[u8]>) ->
     let mut out = empty_sink(rt.alloc());
     let mut err = empty_sink(rt.alloc());
     let status = if why {
-        explain::serve(
+        answers::serve(
             rt.alloc(),
             words,
             &mut files,

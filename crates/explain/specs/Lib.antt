@@ -1,6 +1,3 @@
-pub mod Questions
-pub mod QuestionViews
+pub mod TaskTexts
 pub mod Telling
-pub mod Answered
 pub mod Breaking
-pub mod NoAnswers

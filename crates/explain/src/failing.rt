@@ -127,7 +127,7 @@ fn wants_grant(found: &[BrokenRule]) -> bool
 }
 
 /// Adds what the search came to. Whether it finds a certificate.
-pub(crate) fn add_unfound(
+pub fn add_unfound(
     alloc: Global,
     page: &mut Page,
     file: &[u8],

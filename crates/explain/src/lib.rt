@@ -1,31 +1,27 @@
-//! Why not, and where: what `capwhy` answers. It tells all rules that a certificate breaks with what each compares, what the search
-//! came to where it finds none, where the faults of a task's text are, and lists a task's programs with remarks. Nothing of it is
-//! needed to believe a yes of `capcheck`.
+//! Why not, and where, in words: all rules that a certificate breaks with what each compares, what the search came to where it finds none, where the
+//! faults of a task's text are, and the listing of a task's programs with remarks. Nothing of it is needed to believe a yes of `capcheck`.
 #![tactic(auto)]
 
-pub mod answering;
 mod arriving;
-mod attacking;
 mod authority_rules;
-mod breaching;
 mod breaking;
 mod call_rules;
-mod deeds;
-mod failing;
+pub mod failing;
 mod folding;
-pub mod laws;
-mod listing;
+pub mod listing;
 mod older;
-pub mod questions;
-mod refusing;
+pub mod refusing;
 mod remarking;
-mod renewing;
-mod scenes;
+pub mod renewing;
+pub mod scenes;
 mod sentences;
 mod starting;
-mod task_faults;
-mod usage;
+pub mod task_faults;
 mod warning;
 
-pub use answering::{NAME, serve};
-pub use questions::{Question, read_question};
+pub use failing::add_unfound;
+pub use listing::add_listing;
+pub use refusing::findings_text;
+pub use renewing::renewed;
+pub use scenes::Scene;
+pub use task_faults::add_task_faults;

@@ -63,7 +63,7 @@ fn without_bound(untrusted: bool, has_cert: bool) -> &'static str {
 
 /// Adds each program with its remarks; the bounds are those of the certificate, if there is one. The numbers of a table are told
 /// where they aren't those of the point before. Warnings go by the bounds of another certificate.
-pub(crate) fn add_listing(page: &mut Page, scene: &Scene<'_>, bounds: &Cert, has_cert: bool) {
+pub fn add_listing(page: &mut Page, scene: &Scene<'_>, bounds: &Cert, has_cert: bool) {
     for (number, program) in scene.task.programs().iter().enumerate() {
         let name = program.name.as_bytes();
         say!(page; name, "\n");

@@ -1,15 +1,18 @@
 //! All rules that a certificate breaks, with where and why.
 
-ghost use Rattle.std.specs.Prelude.{◌≡◌, ◌++◌, ℕ, List, Option, map, option_map};
+ghost use Rattle.std.specs.Prelude.{◌≡◌, ◌++◌, ℕ, IfOk, List, Option, map, option_map};
 ghost use Rattle.checker.specs.FindingViews.{broken_rule_of};
-ghost use Rattle.explain.specs.Telling.{HasHead, TellsEach, finding_text, head_text, is_same_point};
+ghost use Rattle.explain.specs.Telling.{HasHead, Tells, TellsEach, finding_text, head_text, is_same_point};
 ghost use Rattle.checker.specs.Findings.{BrokenRule as BrokenRuleSeen};
 ghost use Rattle.task.specs.Plans.{program_name};
 ghost use Rattle.texts.specs.PageViews.{Adds};
 
+use crate::older::add_older;
 use crate::scenes::Scene;
 use crate::sentences::sentence;
+use certificate::Cert;
 use checker::BrokenRule;
+use std::alloc::{AllocError, Global};
 use texts::{Page, say};
 
 /// Adds the line of a point: its instruction as it is written.
@@ -71,4 +74,24 @@ pub(crate) fn add_findings(page: &mut Page, scene: &Scene<'_>, found: &[BrokenRu
         add_finding(page, scene, last, *finding);
         last = Some(*finding);
     }
+}
+
+/// What is told of the rules that a certificate breaks: each in its order, below the point where it is broken; or that none is. Want of memory is the
+/// only error.
+pub fn findings_text(
+    alloc: Global,
+    scene: &Scene<'_>,
+    cert: &Cert,
+    found: &[BrokenRule],
+) -> Result<Vec<u8>, AllocError>
+    ensures { IfOk result (λ text. Tells scene.now.task.now (map broken_rule_of found.now) text.items) }
+{
+    let mut page = Page::new(alloc);
+    if found.is_empty() {
+        say!(&mut page; "no rule is broken: the certificate is accepted\n");
+        return page.into_bytes();
+    }
+    add_older(&mut page, scene.task, cert);
+    add_findings(&mut page, scene, found);
+    page.into_bytes()
 }

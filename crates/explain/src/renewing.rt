@@ -57,7 +57,7 @@ fn push_all(renewed: &mut Cert, moves: &[MovedProgram<'_>], cert: &Cert) -> Resu
 }
 
 /// The certificate with its points where the programs have them now, if the checker accepts it so.
-pub(crate) fn renewed(alloc: Global, task: &Task, cert: &Cert) -> Result<Option<Cert>, Memory>
+pub fn renewed(alloc: Global, task: &Task, cert: &Cert) -> Result<Option<Cert>, Memory>
     ensures { IfOk result (λ found. IfSome found (λ renewed. IsAccepted task.now renewed)) }
 {
     let moves = moved_programs(alloc, task, cert)?;

@@ -15,7 +15,7 @@ use transfer::Site;
 
 /// A task with its file, and a certificate in which all bounds are written.
 #[derive(Clone, Copy)]
-pub(crate) struct Scene<'a> {
+pub struct Scene<'a> {
     pub file: &'a [u8],
     pub texts: &'a [ProgramText],
     pub task: &'a Task,
@@ -34,7 +34,7 @@ pub(crate) struct BoundedPoint<'a> {
 
 /// A point with its line.
 #[derive(Clone, Copy)]
-pub(crate) struct Place<'a> {
+pub struct Place<'a> {
     program: &'a [u8],
     point: u32,
     line: u32,
@@ -51,7 +51,7 @@ impl<'a> Say for Place<'a> {
 
 impl<'a> Scene<'a> {
     /// A task with its file and the texts of its programs, and a certificate.
-    pub(crate) fn new(
+    pub fn new(
         file: &'a [u8],
         texts: &'a [ProgramText],
         task: &'a Task,
@@ -76,7 +76,7 @@ impl<'a> Scene<'a> {
     }
 
     /// A point of a program, with its line.
-    pub(crate) fn place(&self, program: u8, point: u8) -> Place<'a>
+    pub fn place(&self, program: u8, point: u8) -> Place<'a>
         ensures program { result.program.now ≡ program_name self.now.task.now program }
         ensures point { result.point ≡ point }
     {

@@ -1,7 +1,7 @@
 //! Where the faults of a task's text are.
 
 ghost use Rattle.std.specs.Prelude.{◌≡◌, IfOk, false, true};
-ghost use Rattle.explain.specs.Answered.{IsTaskText};
+ghost use Rattle.explain.specs.TaskTexts.{IsTaskText};
 
 use console::{Fault, words_of};
 use std::alloc::Global;
@@ -24,11 +24,7 @@ fn add_refusal(
 
 /// Adds the faults of a task's text. Whether it is good: that is judged as every command judges it.
 #[tactic(auto, using(crate::proofs::Refused::refused_text))]
-pub(crate) fn add_task_faults(
-    alloc: Global,
-    page: &mut Page,
-    file: &[u8],
-) -> Result<bool, TaskFault>
+pub fn add_task_faults(alloc: Global, page: &mut Page, file: &[u8]) -> Result<bool, TaskFault>
     ensures good { IfOk result (λ is_good. is_good ≡ true → IsTaskText file.now) }
     ensures bad { IfOk result (λ is_good. is_good ≡ false → IsTaskText file.now → ⊥) }
 {

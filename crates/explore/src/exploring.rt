@@ -80,8 +80,8 @@ fn are_own(moves: &[Move<'_>]) -> bool
     }
 }
 
-/// The events of moves.
-fn events_of(alloc: Global, moves: &[Move<'_>]) -> Result<Vec<Event>, Memory>
+/// The events of moves. Want of memory is the only error.
+pub fn events_of(alloc: Global, moves: &[Move<'_>]) -> Result<Vec<Event>, Memory>
     ensures { IfOk result (λ events. map event_of events.items ≡ map event_at moves.now) }
 {
     let mut events = Vec::new(alloc);

@@ -31,6 +31,6 @@ pub use attacks::{Deed, Deeds, Move};
 pub use breaches::Breach;
 pub use breaking::breaks;
 pub use distances::Goal;
-pub use exploring::{Explored, FoundAttack, FoundRun, HowFar, Watcher, explore};
+pub use exploring::{Explored, FoundAttack, FoundRun, HowFar, Watcher, events_of, explore};
 pub use taking_over::{Entry, Takeover, takeovers};
-pub use writing::write_breach;
+pub use writing::{add_breach, add_schedule, write_breach};

@@ -1,82 +1,66 @@
 //! The text of a run that breaks something.
 
-ghost use Rattle.std.specs.Prelude.{◌≡◌, ◌++◌, ◌<◌, ◌-◌, ◌^◌, IsErrOf, OnErr, OnOk, map};
+ghost use Rattle.std.specs.Prelude.{◌<◌, ◌-◌, ◌^◌, ◌≡◌, IsErrOf, OnErr, OnOk, map};
 ghost use Rattle.rights.specs.Output.{Took, TookFront};
 ghost use Rattle.syscalls.specs.Views.{event_of};
 ghost use Rattle.rights.specs.Views.{operation_of};
 ghost use Rattle.explore.specs.Breaches.{Outside};
 ghost use Rattle.explore.specs.BreachViews.{breach_of};
+ghost use Rattle.texts.specs.PageViews.{Adds};
 ghost use Rattle.explore.specs.Texts.{WritesDetailed, WritesFrontDetailed, breach_text, breach_words, event_text, schedule_part, schedule_text};
 
 use crate::breaches::Breach;
 use rights::{Op, Out, Stop, write_all};
 use simulator::simulate;
-use std::alloc::{AllocError, Global};
+use std::alloc::Global;
 use syscalls::Event;
 use task::Task;
-use texts::Decimal;
+use texts::{Page, Say, parts_of, say};
 
-/// Appends a line of a schedule.
-fn push_event(text: &mut Vec<u8>, event: Event) -> Result<(), AllocError>
-    ensures { OnOk result (text.new.items ≡ text.old.items ++ event_text (event_of event)) }
+/// Adds a line of a schedule.
+fn add_event(page: &mut Page, event: Event)
+    ensures { Adds page.old page.new (event_text (event_of event)) }
 {
-    let process = Decimal::new(u32::from(event.process));
-    text.extend_from_slice(process.as_bytes())?;
-    text.extend_from_slice(b" ")?;
-    let input = Decimal::new(u32::from(event.input));
-    text.extend_from_slice(input.as_bytes())?;
+    say!(page; event.process, " ", event.input);
     if event.refuse {
-        text.extend_from_slice(b" refuse")?;
+        " refuse".say(page);
     }
-    text.extend_from_slice(b"\n")
+    "\n".say(page)
 }
 
-/// Appends the lines of a schedule.
-fn push_events(text: &mut Vec<u8>, events: &[Event]) -> Result<(), AllocError>
-    ensures { OnOk result (text.new.items ≡ text.old.items ++ schedule_text (map event_of events.now)) }
+/// Adds the lines of a schedule, as `read_schedule` reads them.
+pub fn add_schedule(page: &mut Page, events: &[Event])
+    ensures { Adds page.old page.new (schedule_text (map event_of events.now)) }
 {
     for event in events {
-        push_event(text, *event)?;
+        add_event(page, *event);
     }
-    Ok(())
 }
 
-/// Appends a schedule, and a blank line.
-fn push_schedule(text: &mut Vec<u8>, events: &[Event]) -> Result<(), AllocError>
-    ensures { OnOk result (text.new.items ≡ text.old.items ++ schedule_part (map event_of events.now)) }
+/// Adds the effect that no grant allows.
+fn add_outside(page: &mut Page, op: Op, place: &[u8])
+    ensures { Adds page.old page.new (breach_words (Outside (operation_of op) place.now)) }
 {
-    push_events(text, events)?;
-    text.extend_from_slice(b"\n")
+    say!(page; "outside: ", op, " ", place)
 }
 
-/// Appends the effect that no grant allows.
-fn push_outside(text: &mut Vec<u8>, op: Op, place: &[u8]) -> Result<(), AllocError>
-    ensures { OnOk result (text.new.items ≡ text.old.items ++ breach_words (Outside (operation_of op) place.now)) }
-{
-    text.extend_from_slice(b"outside: ")?;
-    text.extend_from_slice(op.name().as_bytes())?;
-    text.extend_from_slice(b" ")?;
-    text.extend_from_slice(place)
-}
-
-/// Appends what is broken.
-fn push_words(text: &mut Vec<u8>, breach: &Breach) -> Result<(), AllocError>
-    ensures { OnOk result (text.new.items ≡ text.old.items ++ breach_words (breach_of breach.now)) }
+/// Adds what is broken.
+fn add_words(page: &mut Page, breach: &Breach)
+    ensures { Adds page.old page.new (breach_words (breach_of breach.now)) }
 {
     match breach {
-        Breach::Outside(op, place) => push_outside(text, *op, place),
-        Breach::MissingRight => text.extend_from_slice(b"missing right"),
-        Breach::CapMode => text.extend_from_slice(b"capability mode"),
+        Breach::Outside(op, place) => add_outside(page, *op, place),
+        Breach::MissingRight => "missing right".say(page),
+        Breach::CapMode => "capability mode".say(page),
     }
 }
 
-/// Appends the last line.
-fn push_breach(text: &mut Vec<u8>, breach: &Breach, detail: &[u8]) -> Result<(), AllocError>
-    ensures { OnOk result (text.new.items ≡ text.old.items ++ breach_text (breach_of breach.now) detail.now) }
+/// Adds the line of what is broken: its words, with a detail behind them.
+pub fn add_breach(page: &mut Page, breach: &Breach, detail: &[u8])
+    ensures { Adds page.old page.new (breach_text (breach_of breach.now) detail.now) }
 {
-    push_words(text, breach)?;
-    text.extend_from_slice(detail)?;
-    text.extend_from_slice(b"\n")
+    add_words(page, breach);
+    say!(page; detail, "\n")
 }
 
 /// Writes a schedule, and a blank line.
@@ -88,9 +72,10 @@ fn write_schedule<W: Out>(alloc: Global, events: &[Event], out: &mut W) -> Resul
     ensures device { IsErrOf result Stop.Device → W.faults out.old < W.faults out.new }
     ensures not_spent { IsErrOf result Stop.Spent → ⊥ }
 {
-    let mut text = Vec::new(alloc);
-    push_schedule(&mut text, events)?;
-    write_all(out, &text)
+    let mut page = Page::new(alloc);
+    add_schedule(&mut page, events);
+    "\n".say(&mut page);
+    write_all(out, page.finish()?)
 }
 
 /// Writes the line of what is broken.
@@ -107,9 +92,9 @@ fn write_line<W: Out>(
     ensures device { IsErrOf result Stop.Device → W.faults out.old < W.faults out.new }
     ensures not_spent { IsErrOf result Stop.Spent → ⊥ }
 {
-    let mut text = Vec::new(alloc);
-    push_breach(&mut text, breach, detail)?;
-    write_all(out, &text)
+    let mut page = Page::new(alloc);
+    add_breach(&mut page, breach, detail);
+    write_all(out, page.finish()?)
 }
 
 /// Writes a run that breaks something: its schedule, as `read_schedule` reads it, a blank line, its trace, as `simulate` writes it, and

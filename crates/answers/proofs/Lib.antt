@@ -1,0 +1,4 @@
+pub mod Refused
+pub mod NoAnswerLaws
+pub mod PlacingLaws
+pub mod Writes

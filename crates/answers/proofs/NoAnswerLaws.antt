@@ -1,0 +1,98 @@
+-- What is no answer, by the files that are told.
+use Rattle.std.proofs.Common.{◌≡◌, ℕ, List, [], ◌∷◌, ◌++◌, Some, refl, inl, inr, subst, sym, ◌∙◌}
+use Rattle.std.specs.Prelude.{false, Option, Result, Ok, codes}
+use Rattle.certificate.specs.Bounds.{Certificate}
+use Rattle.certificate_text.specs.Readings.{certificate_of_text}
+use Rattle.checker.specs.Findings.{BrokenRule, findings}
+use Rattle.checker.specs.Verdicts.{IsAccepted}
+use Rattle.rules.specs.Expansions.{expansion}
+use Rattle.searcher.specs.Flat.{flat}
+use Rattle.task.specs.Plans.{Plan, program_name}
+use Rattle.task_reader.specs.Reading.{task_of}
+use Rattle.answers.specs.Answered.{SaysBroken, SaysFound, SaysWhether}
+use Rattle.answers.specs.NoAnswers.{NoSaysWhether, NoneSaysWhether}
+use Rattle.explain.specs.Telling.{HasHead, Tells, TellsEach, none_yet, one_more, finding_text, point_with_line}
+
+same_some : {A : Type 0} {x y : A} → Some x ≡ Some y → x ≡ y
+same_some same = cc
+
+same_ok : {A E : Type 0} {x y : A} (r : Result A E) → r ≡ Ok x → r ≡ Ok y → x ≡ y
+same_ok r first second = let same = sym first ∙ second in cc
+
+never_both : (Holds : Type 0) → SaysWhether 0 Holds → Holds
+never_both Holds (inl says) = says.1
+never_both Holds (inr says) = absurd cc
+
+denied : (Holds : Type 0) → SaysWhether 1 Holds → Holds → ⊥
+denied Holds (inl says) holds = cc
+denied Holds (inr says) holds = says.1 holds
+
+module _ (text bounds_text : List ℕ) (plan : Plan) (bounds : Certificate) (is_task : task_of text ≡ Ok plan) (is_bounds : certificate_of_text bounds_text ≡ Ok bounds) where
+  accepted_if : (told told_bounds written : List ℕ) (is : told ≡ text) (is_told : told_bounds ≡ bounds_text) → SaysBroken 0 told told_bounds written → IsAccepted plan bounds
+  accepted_if told told_bounds written is is_told says =
+      let plan_is : says.plan ≡ plan = same_ok (task_of text) (sym (λ k. task_of (is k)) ∙ says.is_task) is_task in
+      let bounds_is : says.bounds ≡ bounds = same_ok (certificate_of_text bounds_text) (sym (λ k. certificate_of_text (is_told k)) ∙ says.is_certificate) is_bounds in
+      subst (λ (b : Certificate). IsAccepted plan b) bounds_is (subst (λ (p : Plan). IsAccepted p says.bounds) plan_is (never_both (IsAccepted says.plan says.bounds) says.says))
+
+  refused_if : (told told_bounds written : List ℕ) (is : told ≡ text) (is_told : told_bounds ≡ bounds_text) → SaysBroken 1 told told_bounds written
+      → IsAccepted plan bounds → ⊥
+  refused_if told told_bounds written is is_told says accepted =
+      let plan_is : says.plan ≡ plan = same_ok (task_of text) (sym (λ k. task_of (is k)) ∙ says.is_task) is_task in
+      let bounds_is : says.bounds ≡ bounds = same_ok (certificate_of_text bounds_text) (sym (λ k. certificate_of_text (is_told k)) ∙ says.is_certificate) is_bounds in
+      denied (IsAccepted says.plan says.bounds) says.says
+      (subst (λ (p : Plan). IsAccepted p says.bounds) (sym plan_is) (subst (λ (b : Certificate). IsAccepted plan b) (sym bounds_is) accepted))
+
+-- Where a rule is broken something is told.
+second_empty : (first second : List ℕ) → first ++ second ≡ [] → second ≡ []
+second_empty [] second is = is
+second_empty (byte ∷ first) second is = absurd cc
+
+nothing_told : (plan : Plan) (last : Option BrokenRule) (fs : List BrokenRule) (told : List ℕ) → TellsEach plan last fs told → told ≡ [] → fs ≡ []
+nothing_told plan last fs told none_yet is = refl
+nothing_told plan last fs told (one_more f head sentence before has) is =
+    let line = second_empty head (finding_text f sentence) (second_empty _ (head ++ finding_text f sentence) is) in
+    absurd cc
+
+no_head : (plan : Plan) (f : BrokenRule) → HasHead plan f false [] → ⊥
+no_head plan f has =
+    let clash = second_empty (point_with_line (program_name plan f.program) f.point has.0) ((codes ": " ++ (has.1 ++ codes "\n"))) (sym has.2) in
+    cc
+
+not_silent : (plan : Plan) (fs : List BrokenRule) (text : List ℕ) → Tells plan fs text → text ≡ [] → ⊥
+unfolding Tells
+not_silent plan [] text tells is = let clash = sym tells ∙ is in cc
+not_silent plan (f ∷ fs) text tells is =
+    let clash = nothing_told plan tells.last (f ∷ fs) tells.told tells.each (second_empty tells.before tells.told (sym tells.whole ∙ is)) in
+    cc
+
+added_nothing : (text more : List ℕ) → text ≡ text ++ more → more ≡ []
+added_nothing [] more is = sym is
+added_nothing (byte ∷ text) more is = added_nothing text more (let same = is in cc)
+
+pub no_says : NoSaysWhether
+no_says = record {
+  refused = λ files task certificate text bounds_text plan bounds before after is_text is_bounds is_task is_certificate refused answers.
+      refused (accepted_if text bounds_text plan bounds is_task is_certificate answers.text answers.bounds_text answers.told
+      (same_some (sym answers.is_file ∙ is_text)) (same_some (sym answers.is_bounds ∙ is_bounds)) answers.says);
+  accepted = λ files task certificate text bounds_text plan bounds before after is_text is_bounds is_task is_certificate accepted answers.
+      refused_if text bounds_text plan bounds is_task is_certificate answers.text answers.bounds_text answers.told
+      (same_some (sym answers.is_file ∙ is_text)) (same_some (sym answers.is_bounds ∙ is_bounds)) answers.says accepted;
+  silent = λ files task certificate status before answers.
+      not_silent answers.says.plan (findings answers.says.plan (expansion answers.says.plan answers.says.bounds)) answers.told answers.says.tells
+      (added_nothing before answers.told (same_some answers.writes));
+  headless = no_head;
+}
+
+plan_of : (text told : List ℕ) (plan : Plan) (status : ℕ) → task_of text ≡ Ok plan → told ≡ text → (says : SaysFound status told) → says.plan ≡ plan
+plan_of text told plan status is_task is says = same_ok (task_of text) (sym (λ k. task_of (is k)) ∙ says.is_task) is_task
+
+pub none_says : NoneSaysWhether
+none_says = record {
+  unfit = λ files task text plan before after is_text is_task none answers.
+      let plan_is = plan_of text answers.text plan 0 is_task (same_some (sym answers.is_file ∙ is_text)) answers.says in
+      let found = answers.says.found refl in
+      none found.0 (subst (λ (p : Plan). IsAccepted p found.0) plan_is found.1);
+  fits = λ files task text plan bounds before after is_text is_task is_flat accepted answers.
+      let plan_is = plan_of text answers.text plan 1 is_task (same_some (sym answers.is_file ∙ is_text)) answers.says in
+      answers.says.unfound refl bounds (subst (λ (p : Plan). flat p ≡ Some bounds) (sym plan_is) is_flat) (subst (λ (p : Plan). IsAccepted p bounds) (sym plan_is) accepted);
+}

@@ -1,0 +1,174 @@
+-- What is answered to what was asked: what the status says of it, and what is written. (own)
+use Rattle.std.specs.Prelude.{◌≡◌, ◌⊎◌, ◌++◌, ℕ, true, List, [], length, codes, Option, Some, Ok}
+use Rattle.rights.specs.Output.{Took}
+use Rattle.certificate.specs.Bounds.{Certificate}
+use Rattle.certificate_text.specs.Readings.{certificate_of_text}
+use Rattle.certificate_text.specs.Texts.{certificate_text}
+use Rattle.checker.specs.Findings.{findings}
+use Rattle.checker.specs.Verdicts.{IsAccepted}
+use Rattle.console.specs.Files.{Files, IsFile}
+use Rattle.console.specs.Statuses.{is_done_status}
+use Rattle.kernel.specs.Answers.{Event}
+use Rattle.rules.specs.Expansions.{expansion}
+use Rattle.searcher.specs.Flat.{flat}
+use Rattle.follow.specs.Places.{Placing}
+use Rattle.follow.specs.Shows.{IsShown, Witness, events_of}
+use Rattle.records.specs.Accounts.{ListTheOthers}
+use Rattle.records.specs.Calls.{RecordedCalls, are_calls}
+use Rattle.records.specs.Readings.{calls_of_text}
+use Rattle.records.specs.Texts.{calls_text}
+use Rattle.task.specs.Plans.{Plan}
+use Rattle.task_reader.specs.Reading.{task_of}
+use Rattle.texts.specs.Lines.{lines_of}
+use Rattle.explore.specs.Breaches as explore
+use Rattle.explore.specs.Broken.{Breaks, IsRefuted, Move, own_moves}
+use Rattle.explore.specs.Texts.{WritesRun, schedule_text}
+use Rattle.answers.specs.PlacingWords.{placings_in}
+use Rattle.answers.specs.Questions.{Question, Usage, Listing, Broken, Unfound, Breach, Proposed, Faulty, Calls, Followed, question_in}
+use Rattle.explain.specs.TaskTexts.{IsTaskText}
+use Rattle.explain.specs.Telling.{Tells}
+
+-- It is 0 where this holds, and 1 where it doesn't.
+abbrev pub SaysWhether : ℕ → Type 0 → Type 0
+SaysWhether status Holds = ((status ≡ 0) × Holds) ⊎ ((status ≡ 1) × (Holds → ⊥))
+
+-- of the texts of a task and a certificate, whether the certificate is accepted; this text tells the rules that it breaks
+pub record SaysBroken (status : ℕ) (task certificate text : List ℕ) : Type 0 where
+  pub plan : Plan
+  pub is_task : task_of task ≡ Ok plan
+  pub bounds : Certificate
+  pub is_certificate : certificate_of_text certificate ≡ Ok bounds
+  pub says : SaysWhether status (IsAccepted plan bounds)
+  pub tells : Tells plan (findings plan (expansion plan bounds)) text
+
+-- of a task's text, that a certificate of it is accepted, with status 0; and with 1 that its flat one isn't, if it has one
+pub record SaysFound (status : ℕ) (task : List ℕ) : Type 0 where
+  pub plan : Plan
+  pub is_task : task_of task ≡ Ok plan
+  pub is_done : is_done_status status ≡ true
+  pub found : status ≡ 0 → (bounds : Certificate) × IsAccepted plan bounds
+  pub unfound : status ≡ 1 → (bounds : Certificate) → flat plan ≡ Some bounds → IsAccepted plan bounds → ⊥
+
+-- The files are there. `text` says whether the one is a task's text; `no` whether the certificate of the other is accepted, where no
+-- rule is broken, and tells each that is; `none` says with 0 that some certificate is, and with 1 that the flat one isn't; all else is done with 0.
+pub record SaysOfFile (files : Files) (name : List ℕ) (status : ℕ) : Type 0 where
+  pub text : List ℕ
+  pub is_file : IsFile files name text
+  pub says : SaysWhether status (IsTaskText text)
+
+pub record SaysOfSearch (files : Files) (name : List ℕ) (status : ℕ) : Type 0 where
+  pub text : List ℕ
+  pub is_file : IsFile files name text
+  pub says : SaysFound status text
+
+pub record SaysOfFiles (files : Files) (task certificate : List ℕ) (status : ℕ) (before after : Option (List ℕ)) : Type 0 where
+  pub text : List ℕ
+  pub is_file : IsFile files task text
+  pub bounds_text : List ℕ
+  pub is_bounds : IsFile files certificate bounds_text
+  pub told : List ℕ
+  pub says : SaysBroken status text bounds_text told
+  pub writes : Took before after told
+
+-- A certificate is written that is accepted, with status 0, or none, with status 1.
+pub record Offers (plan : Plan) (before after : Option (List ℕ)) : Type 0 where
+  pub bounds : Certificate
+  pub accepted : IsAccepted plan bounds
+  pub writes : Took before after (certificate_text bounds)
+
+abbrev pub SaysOffered : Plan → ℕ → Option (List ℕ) → Option (List ℕ) → Type 0
+SaysOffered plan status before after = ((status ≡ 0) × Offers plan before after) ⊎ ((status ≡ 1) × Took before after (codes "none\n"))
+
+-- A run is written whose last step breaks something, with status 1, and the task is neither sandboxed nor confined; or there is one in which
+-- attackers do what they like, with status 1 too, and the task isn't confined; 0 claims nothing.
+pub record Refutes (plan : Plan) (before after : Option (List ℕ)) : Type 0 where
+  pub events : List Event
+  pub breach : explore.Breach
+  pub breaks : Breaks plan (own_moves events) (Some breach)
+  pub refuted : IsRefuted plan (own_moves events)
+  pub writes : WritesRun plan events breach before after
+
+pub record Attacks (plan : Plan) : Type 0 where
+  pub moves : List Move
+  pub breach : explore.Breach
+  pub breaks : Breaks plan moves (Some breach)
+  pub refuted : IsRefuted plan moves
+
+abbrev pub SaysRefuted : Plan → ℕ → Option (List ℕ) → Option (List ℕ) → Type 0
+SaysRefuted plan status before after = (status ≡ 0) ⊎ ((status ≡ 1) × (Refutes plan before after ⊎ Attacks plan))
+
+pub record SaysOfRuns (files : Files) (name : List ℕ) (status : ℕ) (before after : Option (List ℕ)) : Type 0 where
+  pub text : List ℕ
+  pub is_file : IsFile files name text
+  pub plan : Plan
+  pub is_task : task_of text ≡ Ok plan
+  pub says : SaysRefuted plan status before after
+
+pub record SaysOfTask (files : Files) (name : List ℕ) (status : ℕ) (before after : Option (List ℕ)) : Type 0 where
+  pub text : List ℕ
+  pub is_file : IsFile files name text
+  pub plan : Plan
+  pub is_task : task_of text ≡ Ok plan
+  pub says : SaysOffered plan status before after
+
+-- Of a record's text calls are written that are within the limits, and each line has one of them or is among the others; 0 says that every line is understood.
+pub record SaysCalls (text : List ℕ) (status : ℕ) (before after : Option (List ℕ)) : Type 0 where
+  pub calls : RecordedCalls
+  pub within : are_calls calls ≡ true
+  pub misread : List ℕ
+  pub silent : List ℕ
+  pub others : ListTheOthers (length (lines_of text)) calls misread silent
+  pub writes : Took before after (calls_text calls)
+  pub says : SaysWhether status (misread ≡ [])
+
+pub record SaysOfRecord (files : Files) (name : List ℕ) (status : ℕ) (before after : Option (List ℕ)) : Type 0 where
+  pub text : List ℕ
+  pub is_file : IsFile files name text
+  pub says : SaysCalls text status before after
+
+-- A schedule is written, a blank line, and a text behind it, with status 0; 1 claims nothing.
+abbrev pub WritesSchedule : List Event → ℕ → Option (List ℕ) → Option (List ℕ) → Type 0
+WritesSchedule events status before after =
+    ((status ≡ 0) × (tally : List ℕ) × Took before after (schedule_text events ++ (codes "\n" ++ tally))) ⊎ (status ≡ 1)
+
+-- so of a run that shows recorded calls
+pub record Follows (plan : Plan) (placings : List Placing) (calls : RecordedCalls) (status : ℕ) (before after : Option (List ℕ)) : Type 0 where
+  pub witness : Witness
+  pub is_shown : IsShown plan placings calls witness
+  pub writes : WritesSchedule (events_of witness.moves) status before after
+
+abbrev pub SaysFollowed : Plan → List Placing → RecordedCalls → ℕ → Option (List ℕ) → Option (List ℕ) → Type 0
+SaysFollowed plan placings calls status before after = Follows plan placings calls status before after ⊎ (status ≡ 1)
+
+-- of the texts of a task and of recorded calls, with words REAL=MODEL
+pub record SaysWhetherFollowed (task calls_text : List ℕ) (places : List (List ℕ)) (status : ℕ) (before after : Option (List ℕ)) : Type 0 where
+  pub plan : Plan
+  pub is_task : task_of task ≡ Ok plan
+  pub calls : RecordedCalls
+  pub are_calls : calls_of_text calls_text ≡ Ok calls
+  pub says : SaysFollowed plan (placings_in places) calls status before after
+
+pub record SaysOfFollowing (files : Files) (task calls : List ℕ) (places : List (List ℕ)) (status : ℕ) (before after : Option (List ℕ)) : Type 0 where
+  pub text : List ℕ
+  pub is_file : IsFile files task text
+  pub calls_text : List ℕ
+  pub is_calls_file : IsFile files calls calls_text
+  pub says : SaysWhetherFollowed text calls_text places status before after
+
+-- what is taken of the output before and after is told of broken rules, of proposals, of runs and of calls
+abbrev pub Answers : Files → Question → ℕ → Option (List ℕ) → Option (List ℕ) → Type 0
+Answers files Usage status before after = status ≡ 0
+Answers files (Listing task certificate) status before after = status ≡ 0
+Answers files (Broken task certificate) status before after = SaysOfFiles files task certificate status before after
+Answers files (Unfound task) status before after = SaysOfSearch files task status
+Answers files (Breach task states) status before after = SaysOfRuns files task status before after
+Answers files (Proposed task certificate) status before after = SaysOfTask files task status before after
+Answers files (Faulty task) status before after = SaysOfFile files task status
+Answers files (Calls file) status before after = SaysOfRecord files file status before after
+Answers files (Followed task calls places) status before after = SaysOfFollowing files task calls places status before after
+
+-- The words ask something, and it is answered.
+pub record AnswersWords (files : Files) (words : List (List ℕ)) (status : ℕ) (before after : Option (List ℕ)) : Type 0 where
+  pub question : Question
+  pub asked : question_in words ≡ Some question
+  pub answered : Answers files question status before after

@@ -1,0 +1,6 @@
+pub mod PlacingWords
+pub mod PlacingViews
+pub mod Questions
+pub mod QuestionViews
+pub mod Answered
+pub mod NoAnswers

@@ -1,0 +1,31 @@
+-- What is no answer. (own)
+use Rattle.std.specs.Prelude.{◌≡◌, ℕ, false, List, [], Option, Some, Ok}
+use Rattle.certificate.specs.Bounds.{Certificate}
+use Rattle.certificate_text.specs.Readings.{certificate_of_text}
+use Rattle.checker.specs.Findings.{BrokenRule}
+use Rattle.checker.specs.Verdicts.{IsAccepted}
+use Rattle.searcher.specs.Flat.{flat}
+use Rattle.task.specs.Plans.{Plan}
+use Rattle.task_reader.specs.Reading.{task_of}
+use Rattle.answers.specs.Answered.{Answers}
+use Rattle.answers.specs.Questions.{Broken, Unfound}
+use Rattle.explain.specs.Telling.{HasHead}
+
+-- status 0 to `no` of a certificate that isn't accepted, and 1 of one that is; nothing written; and a finding without its point
+pub record NoSaysWhether : Type 0 where
+  pub refused : (files : List ℕ → Option (List ℕ)) (task certificate text bounds_text : List ℕ) (plan : Plan) (bounds : Certificate) (before after : Option (List ℕ))
+      → files task ≡ Some text → files certificate ≡ Some bounds_text → task_of text ≡ Ok plan → certificate_of_text bounds_text ≡ Ok bounds
+      → (IsAccepted plan bounds → ⊥) → Answers (Some files) (Broken task certificate) 0 before after → ⊥
+  pub accepted : (files : List ℕ → Option (List ℕ)) (task certificate text bounds_text : List ℕ) (plan : Plan) (bounds : Certificate) (before after : Option (List ℕ))
+      → files task ≡ Some text → files certificate ≡ Some bounds_text → task_of text ≡ Ok plan → certificate_of_text bounds_text ≡ Ok bounds
+      → IsAccepted plan bounds → Answers (Some files) (Broken task certificate) 1 before after → ⊥
+  pub silent : (files : List ℕ → Option (List ℕ)) (task certificate : List ℕ) (status : ℕ) (before : List ℕ)
+      → Answers (Some files) (Broken task certificate) status (Some before) (Some before) → ⊥
+  pub headless : (plan : Plan) (f : BrokenRule) → HasHead plan f false [] → ⊥
+
+-- status 0 to `none` of a task that no certificate fits, and 1 of one whose flat certificate is accepted
+pub record NoneSaysWhether : Type 0 where
+  pub unfit : (files : List ℕ → Option (List ℕ)) (task text : List ℕ) (plan : Plan) (before after : Option (List ℕ)) → files task ≡ Some text → task_of text ≡ Ok plan
+      → ((bounds : Certificate) → IsAccepted plan bounds → ⊥) → Answers (Some files) (Unfound task) 0 before after → ⊥
+  pub fits : (files : List ℕ → Option (List ℕ)) (task text : List ℕ) (plan : Plan) (bounds : Certificate) (before after : Option (List ℕ)) → files task ≡ Some text
+      → task_of text ≡ Ok plan → flat plan ≡ Some bounds → IsAccepted plan bounds → Answers (Some files) (Unfound task) 1 before after → ⊥

@@ -1,0 +1,69 @@
+-- The words of `capwhy`, and what they ask. (own)
+use Rattle.std.specs.Prelude.{◌||◌, ℕ, Bool, List, [], ◌∷◌, Option, Some, None, codes, if◌then◌else◌, is_some, not}
+use Rattle.std.specs.List.{list_all}
+use Rattle.std.specs.Option.{option_map}
+use Rattle.std.specs.Str.{bytes_eq}
+use Rattle.texts.specs.Numbers.{at_most, number_of}
+use Rattle.command_line.specs.Orders.{is_dashed}
+use Rattle.answers.specs.PlacingWords.{placing_in}
+
+-- what there is to ask; for a listing of a task, with the bounds of a certificate or without; for all rules that a certificate breaks;
+-- for what the search comes to; for a run that breaks the sandbox, among so many states at most; for a certificate, of untrusted programs
+-- too, or for one of an older text carried over; for the faults of a task's text; for the calls of a record of strace; for whether recorded calls
+-- follow a task, whose places lie where words say
+pub data Question : Type 0 where
+  Usage : Question
+  Listing : (task : List ℕ) (certificate : Option (List ℕ)) → Question
+  Broken : (task certificate : List ℕ) → Question
+  Unfound : (task : List ℕ) → Question
+  Breach : (task : List ℕ) (states : Option ℕ) → Question
+  Proposed : (task : List ℕ) (certificate : Option (List ℕ)) → Question
+  Faulty : (task : List ℕ) → Question
+  Calls : (file : List ℕ) → Question
+  Followed : (task calls : List ℕ) (places : List (List ℕ)) → Question
+
+abbrev pub if_so : Bool → Question → Option Question
+if_so asked question = if asked then Some question else None
+
+-- of one file, and of two
+abbrev pub of_task : List ℕ → List ℕ → Option Question
+of_task command task =
+    if is_dashed task then None
+    else if bytes_eq command (codes "list") then Some (Listing task None)
+    else if bytes_eq command (codes "none") then Some (Unfound task)
+    else if bytes_eq command (codes "breach") then Some (Breach task None)
+    else if bytes_eq command (codes "propose") then Some (Proposed task None)
+    else if bytes_eq command (codes "text") then Some (Faulty task)
+    else if_so (bytes_eq command (codes "calls")) (Calls task)
+
+-- a number of states
+abbrev pub most_states : ℕ
+most_states = 4294967295
+
+abbrev pub among : List ℕ → Option ℕ → Option Question
+among task states = option_map (λ n. Breach task (Some n)) states
+
+abbrev pub of_pair : List ℕ → List ℕ → List ℕ → Option Question
+of_pair command task certificate =
+    if is_dashed task || is_dashed certificate then None
+    else if bytes_eq command (codes "list") then Some (Listing task (Some certificate))
+    else if bytes_eq command (codes "breach") then among task (at_most most_states (number_of certificate))
+    else if bytes_eq command (codes "propose") then Some (Proposed task (Some certificate))
+    else if_so (bytes_eq command (codes "no")) (Broken task certificate)
+
+abbrev pub followed : List ℕ → List ℕ → List (List ℕ) → Option Question
+followed task calls places =
+    if_so (not (is_dashed task || is_dashed calls || not (list_all (λ place. is_some (placing_in place)) places))) (Followed task calls places)
+
+abbrev pub of_more : List (List ℕ) → Option Question → Option Question
+of_more [] question = question
+of_more (word ∷ words) question = None
+
+-- No words, or `--help`; `list TASK`, `none TASK`, `breach TASK`, `propose TASK`, `text TASK`, `calls RECORD`; `list TASK CERT`, `breach TASK STATES`,
+-- `propose TASK CERT`, `no TASK CERT`; `follow TASK CALLS` and words REAL=MODEL. No name begins with `-`, and a number of states fits 32 bits.
+abbrev pub question_in : List (List ℕ) → Option Question
+question_in [] = Some Usage
+question_in (word ∷ []) = if_so (bytes_eq word (codes "--help")) Usage
+question_in (command ∷ task ∷ []) = of_task command task
+question_in (command ∷ task ∷ other ∷ words) =
+    if bytes_eq command (codes "follow") then followed task other words else of_more words (of_pair command task other)

@@ -1,0 +1,178 @@
+//! The run in which an attacker breaks a task's sandbox.
+
+ghost use Rattle.std.specs.Prelude.{◌≡◌, ◌<◌, ◌-◌, ◌^◌, IfOk};
+
+use crate::deeds::add_deed;
+use console::Fault;
+use console::statuses::BROKEN;
+use explore::{
+    Entry, FoundAttack, Move, Takeover, add_breach, add_schedule, breaks, events_of, takeovers,
+    write_breach,
+};
+use rights::{Memory, Out, write_all};
+use std::alloc::{AllocError, Global};
+use syscalls::Event;
+use task::Task;
+use task_reader::read_task;
+use task_text::texts_of_file;
+use texts::{Page, Say, say};
+
+/// The label of the end of what an attacker does.
+const LABEL: &str = "taken_over";
+
+/// Where an attacker's instructions are put into a file: before a line, counted from 1, for a process.
+#[derive(Clone, Copy)]
+struct Insertion {
+    line: u32,
+    process: u8,
+}
+
+/// Adds the instructions that an attacker's process does in a run, a line each, with a label that they lead to where they fail.
+fn add_instructions(page: &mut Page, moves: &[Move<'_>], process: u8) {
+    for next in moves {
+        if let Some(deed) = next.deed {
+            if next.event.process == process {
+                "        ".say(page);
+                add_deed(page, deed);
+                say!(page; " else ", LABEL, "\n");
+            }
+        }
+    }
+    say!(page; LABEL, ": halt\n")
+}
+
+/// Before which lines of the file attackers' instructions are to be put, if each of their programs is taken over in one process alone, and it is known
+/// where.
+fn insertions(
+    alloc: Global,
+    file: &[u8],
+    task: &Task,
+    taken: &[Takeover],
+) -> Result<Option<Vec<Insertion>>, AllocError> {
+    let texts = texts_of_file(alloc, file, task)?;
+    let mut found = Vec::new(alloc);
+    for (at, takeover) in taken.iter().enumerate() {
+        let program = takeover.program;
+        let Some(text) = texts.get(program as usize) else {
+            return Ok(None);
+        };
+        let line = match takeover.entry {
+            Entry::Start => text.written_at(file, 0).line,
+            Entry::At(point) => text.written_at(file, point as usize).line.saturating_add(1),
+            Entry::Parents => 0,
+        };
+        let is_again = taken.iter().take(at).any(|other| other.program == program);
+        if line < 2 || is_again {
+            return Ok(None);
+        }
+        found.push(Insertion {
+            line,
+            process: takeover.process,
+        })?;
+    }
+    Ok(Some(found))
+}
+
+/// Adds the file with attackers' instructions put in.
+fn add_attacked(page: &mut Page, file: &[u8], moves: &[Move<'_>], insertions: &[Insertion]) {
+    let mut line = 1u32;
+    for text in file.split_inclusive(|byte| *byte == b'\n') {
+        for insertion in insertions {
+            if insertion.line == line {
+                add_instructions(page, moves, insertion.process);
+            }
+        }
+        page.bytes(text);
+        line = line.saturating_add(1);
+    }
+}
+
+/// The file with attackers' instructions put in where their processes come into the mode, if they fit there.
+fn attacked_file(
+    alloc: Global,
+    file: &[u8],
+    task: &Task,
+    moves: &[Move<'_>],
+) -> Result<Option<Vec<u8>>, Memory> {
+    let taken = takeovers(alloc, task, moves)?;
+    let Some(insertions) = insertions(alloc, file, task, &taken)? else {
+        return Ok(None);
+    };
+    let mut page = Page::new(alloc);
+    add_attacked(&mut page, file, moves, &insertions);
+    Ok(Some(page.into_bytes()?))
+}
+
+/// The moves of events at which each process does what its program has.
+fn own_moves<'a>(alloc: Global, events: &[Event]) -> Result<Vec<Move<'a>>, Memory> {
+    let mut moves = Vec::new(alloc);
+    for event in events {
+        moves.push(Move::own(*event))?;
+    }
+    Ok(moves)
+}
+
+/// Adds what each attacker does, by process.
+fn add_deeds(page: &mut Page, moves: &[Move<'_>]) {
+    for next in moves {
+        if let Some(deed) = next.deed {
+            say!(page; "attacker, process ", next.event.process, ": ");
+            add_deed(page, deed);
+            "\n".say(page);
+        }
+    }
+}
+
+/// Writes the run of a task in which attackers do what is written in its file, with the file, if that run breaks something. Whether it does
+/// is told.
+fn write_attacked<'a, W: Out>(
+    alloc: Global,
+    file: &[u8],
+    found: &FoundAttack<'_>,
+    out: &mut W,
+) -> Result<bool, Fault<'a>>
+    requires { W.faults out.old < 2 ^ 64 - 1 }
+    ensures { IfOk result (λ is. W.faults out.new ≡ W.faults out.old) }
+{
+    let Ok(task) = read_task(alloc, file) else {
+        return Ok(false);
+    };
+    let events = events_of(alloc, &found.moves)?;
+    let moves = own_moves(alloc, &events)?;
+    let Some(breach) = breaks(alloc, &task, &moves)? else {
+        return Ok(false);
+    };
+    write_breach(alloc, &task, &events, &breach, &found.detail, out)?;
+    let mut page = Page::new(alloc);
+    add_deeds(&mut page, &found.moves);
+    say!(&mut page; "\n", file);
+    write_all(out, page.finish()?)?;
+    Ok(true)
+}
+
+/// Writes a run in which attackers break a task's sandbox, and gives the status: its schedule, its trace, what is broken, what they do, and the file in
+/// which they do it; or, where that doesn't fit into a program, without the trace and the file.
+pub(crate) fn write_attack<'a, W: Out>(
+    alloc: Global,
+    file: &[u8],
+    task: &Task,
+    found: &FoundAttack<'_>,
+    out: &mut W,
+) -> Result<u8, Fault<'a>>
+    requires { W.faults out.old < 2 ^ 64 - 1 }
+    ensures { IfOk result (λ status. status ≡ 1) }
+{
+    if let Some(attacked) = attacked_file(alloc, file, task, &found.moves)? {
+        if write_attacked(alloc, &attacked, found, out)? {
+            return Ok(BROKEN);
+        }
+    }
+    let events = events_of(alloc, &found.moves)?;
+    let mut page = Page::new(alloc);
+    add_schedule(&mut page, &events);
+    "\n".say(&mut page);
+    add_deeds(&mut page, &found.moves);
+    add_breach(&mut page, &found.breach, &found.detail);
+    write_all(out, page.finish()?)?;
+    Ok(BROKEN)
+}

@@ -1,0 +1,19 @@
+//! What `capwhy` answers to its words. Nothing of it is needed to believe a yes of `capcheck`.
+#![tactic(auto)]
+
+pub mod answering;
+mod attacking;
+mod breaching;
+mod deeds;
+mod following;
+pub mod laws;
+mod parting;
+mod placing_words;
+pub mod questions;
+mod recording;
+mod refusals;
+pub mod usage;
+
+pub use answering::serve;
+pub use questions::{Question, read_question};
+pub use usage::NAME;

@@ -1,0 +1,141 @@
+//! What `capwhy` is asked, by its words.
+
+ghost use Rattle.std.specs.Prelude.{◌≡◌, map, option_map, string_bytes};
+ghost use Rattle.command_line.specs.Orders.{is_dashed};
+ghost use Rattle.answers.specs.Questions.{among, followed, most_states, of_pair, of_task, question_in};
+ghost use Rattle.answers.specs.QuestionViews.{question_of};
+ghost use Rattle.texts.specs.Numbers.{at_most, number_of};
+
+use crate::placing_words::are_placings;
+use texts::number_up_to;
+
+/// What is asked. It borrows the names of files from the words.
+#[derive(Clone, Copy)]
+pub enum Question<'a> {
+    /// What there is to ask: no words, or `--help`.
+    Usage,
+    /// `list TASK` or `list TASK CERT`: the programs of a task, with remarks.
+    Listing {
+        task: &'a str,
+        cert: Option<&'a str>,
+    },
+    /// `no TASK CERT`: all rules that a certificate breaks.
+    Broken {
+        task: &'a str,
+        cert: &'a str,
+    },
+    /// `none TASK`: what the search comes to.
+    Unfound {
+        task: &'a str,
+    },
+    /// `breach TASK` or `breach TASK STATES`: a run that breaks the sandbox, among so many states at most.
+    Breach {
+        task: &'a str,
+        states: Option<u32>,
+    },
+    /// `propose TASK`: a certificate of a task, untrusted programs or not. `propose TASK CERT`: one of an older text, with its points
+    /// where the programs have them now.
+    Proposed {
+        task: &'a str,
+        cert: Option<&'a str>,
+    },
+    /// `text TASK`: the faults of a task's text.
+    Faulty {
+        task: &'a str,
+    },
+    /// `calls RECORD`: the calls of a record of strace.
+    Calls {
+        file: &'a str,
+    },
+    /// `follow TASK CALLS` with any number of words REAL=MODEL: whether recorded calls follow a task.
+    Followed {
+        task: &'a str,
+        calls: &'a str,
+        places: &'a [String],
+    },
+}
+
+/// Whether a word begins with `-`.
+fn is_dashed(word: &str) -> bool
+    ensures { result ≡ is_dashed word.now }
+{
+    word.as_bytes().first() == Some(&b'-')
+}
+
+/// What a command asks of one file.
+fn of_task<'a>(command: &str, task: &'a str) -> Option<Question<'a>>
+    ensures { option_map question_of result ≡ of_task command.now task.now }
+{
+    if is_dashed(task) {
+        return None;
+    }
+    match command {
+        "list" => Some(Question::Listing { task, cert: None }),
+        "none" => Some(Question::Unfound { task }),
+        "breach" => Some(Question::Breach { task, states: None }),
+        "propose" => Some(Question::Proposed { task, cert: None }),
+        "text" => Some(Question::Faulty { task }),
+        "calls" => Some(Question::Calls { file: task }),
+        _ => None,
+    }
+}
+
+/// The search for a run that breaks a task's sandbox, among as many states as a word says.
+fn among<'a>(task: &'a str, states: &str) -> Option<Question<'a>>
+    ensures { option_map question_of result ≡ among task.now (at_most most_states (number_of states.now)) }
+{
+    let states = Some(number_up_to(states.as_bytes(), u32::MAX).ok()?);
+    Some(Question::Breach { task, states })
+}
+
+/// What it asks of two.
+fn of_pair<'a>(command: &str, task: &'a str, cert: &'a str) -> Option<Question<'a>>
+    ensures { option_map question_of result ≡ of_pair command.now task.now cert.now }
+{
+    if is_dashed(task) || is_dashed(cert) {
+        return None;
+    }
+    match command {
+        "list" => Some(Question::Listing {
+            task,
+            cert: Some(cert),
+        }),
+        "breach" => among(task, cert),
+        "propose" => Some(Question::Proposed {
+            task,
+            cert: Some(cert),
+        }),
+        "no" => Some(Question::Broken { task, cert }),
+        _ => None,
+    }
+}
+
+/// Whether recorded calls follow a task, with so many words REAL=MODEL.
+fn followed<'a>(task: &'a str, calls: &'a str, places: &'a [String]) -> Option<Question<'a>>
+    ensures { option_map question_of result ≡ followed task.now calls.now (map string_bytes places.now) }
+{
+    if is_dashed(task) || is_dashed(calls) || !are_placings(places) {
+        return None;
+    }
+    Some(Question::Followed {
+        task,
+        calls,
+        places,
+    })
+}
+
+/// What the words ask, if they ask anything. A name of a file may be empty, and have any bytes but a leading `-`. (own)
+pub fn read_question<'a>(words: &'a [String]) -> Option<Question<'a>>
+    ensures { option_map question_of result ≡ question_in (map string_bytes words.now) }
+{
+    match words {
+        [] => Some(Question::Usage),
+        [word] if word.as_str() == "--help" => Some(Question::Usage),
+        [command, task] => of_task(command.as_str(), task.as_str()),
+        [command, task, calls, places @ ..] if command.as_str() == "follow" => {
+            followed(task.as_str(), calls.as_str(), places)
+        }
+        [command, task, cert] => of_pair(command.as_str(), task.as_str(), cert.as_str()),
+        _ => None,
+    }
+}

@@ -1,0 +1,81 @@
+//! The calls of a record of strace.
+
+ghost use Rattle.std.specs.Prelude.{◌≡◌, ◌<◌, ◌-◌, ◌^◌, [], IfOk, OnErr, true};
+ghost use Rattle.console.specs.Statuses.{is_done_status};
+ghost use Rattle.answers.specs.Answered.{SaysCalls, SaysWhether};
+
+use crate::usage::NAME;
+use console::Fault;
+use console::statuses::{BROKEN, DONE};
+use records::{Recorded, recorded_calls, write_calls};
+use rights::{Out, write_all};
+use std::alloc::{AllocError, Global};
+use texts::{Page, parts_of, say};
+
+/// How many lines that aren't understood are told at most, each by its number.
+const MOST_LINES: usize = 100;
+
+/// How many lines of a record say nothing of a call; what stands behind its last line feed is a line only if it isn't empty.
+fn silent_lines(text: &[u8], recorded: &Recorded) -> usize {
+    let silent = recorded.silent.len();
+    match text {
+        [] | [.., b'\n'] => silent.saturating_sub(1),
+        _ => silent,
+    }
+}
+
+/// Adds the lines that tell which of a record's lines aren't understood, and how many say nothing of a call.
+fn add_others(page: &mut Page, text: &[u8], recorded: &Recorded) {
+    let misread = &recorded.misread;
+    for line in misread.iter().take(MOST_LINES) {
+        say!(page; NAME, ": line ", *line, " isn't understood\n");
+    }
+    if misread.len() > MOST_LINES {
+        let others = misread.len() - MOST_LINES;
+        say!(page; NAME, ": lines that aren't understood, beside these: ", others, "\n");
+    }
+    let silent = silent_lines(text, recorded);
+    if silent > 0 {
+        say!(page; NAME, ": lines that say nothing of a call: ", silent, "\n");
+    }
+}
+
+/// The status of a record of which these lines aren't understood.
+fn status_of(misread: &[u32]) -> u8
+    ensures says { SaysWhether result (misread.now ≡ []) }
+    ensures done { is_done_status result ≡ true }
+{
+    match misread {
+        [] => DONE,
+        [_, ..] => BROKEN,
+    }
+}
+
+/// What is told of a record's other lines.
+fn others(alloc: Global, text: &[u8], recorded: &Recorded) -> Result<Vec<u8>, AllocError> {
+    let mut page = Page::new(alloc);
+    add_others(&mut page, text, recorded);
+    page.into_bytes()
+}
+
+/// Writes the calls of a record that `strace -f` has written, tells of its other lines on the error stream, and gives the status: 1 where lines aren't understood.
+pub(crate) fn answer_calls<'a, W: Out, V: Out>(
+    alloc: Global,
+    text: &[u8],
+    out: &mut W,
+    err: &mut V,
+) -> Result<u8, Fault<'a>>
+    requires out { W.faults out.old < 2 ^ 64 - 1 }
+    requires err { V.faults err.old < 2 ^ 64 - 1 }
+    ensures says { IfOk result (λ status. SaysCalls text.now status (W.taken out.old) (W.taken out.new)) }
+    ensures done { IfOk result (λ status. is_done_status status ≡ true) }
+    ensures untold { OnErr result (err.new ≡ err.old) }
+{
+    let recorded = recorded_calls(alloc, text)?;
+    let told = others(alloc, text, &recorded)?;
+    let mut page = Page::new(alloc);
+    write_calls(&mut page, &recorded.entries);
+    write_all(out, page.finish()?)?;
+    let _ = write_all(err, &told);
+    Ok(status_of(&recorded.misread))
+}

@@ -1,5 +1,0 @@
-use Rattle.explain.proofs.NoAnswerLaws.{no_says}
-use Rattle.explain.proofs.laws.no_says_whether_it_is_accepted.Goals as goal
-
-pub returns : goal.returns
-returns c = no_says
