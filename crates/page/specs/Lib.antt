@@ -1,0 +1,5 @@
+pub mod Escaping
+pub mod Layout
+pub mod FrameViews
+pub mod WireViews
+pub mod Letters

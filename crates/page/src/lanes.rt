@@ -1,0 +1,185 @@
+//! Lanes: upright lines beside the boxes, one for each class of pairs at the left, and one for each panel at the right.
+
+ghost use Rattle.std.specs.Prelude.{◌≡◌, ◌<◌, ◌≤◌, All, false, length};
+ghost use Rattle.std.specs.List.{AllPairs};
+
+use crate::pictures::{Panel, Target};
+use std::alloc::{AllocError, Global};
+
+/// The rows of a class of pairs, counted from the top of the picture.
+#[derive(Clone, Copy)]
+struct Span {
+    class: usize,
+    first: usize,
+    last: usize,
+}
+
+/// A class of pairs with its lane. Rows are counted from the top of the picture.
+#[derive(Clone, Copy)]
+pub struct ClassLane {
+    pub class: usize,
+    /// The first row of the class.
+    pub first: usize,
+    /// The last one.
+    pub last: usize,
+    pub lane: usize,
+}
+
+/// Classes by their first rows. Those that share a lane lie apart.
+#[derive(Drop)]
+pub struct Classes {
+    pub items: Vec<ClassLane>,
+    /// How many lanes they take.
+    pub lanes: usize,
+    pub ghost few: { All (λ c. c.lane < lanes) items.items },
+    pub ghost apart: { AllPairs (λ a b. a.lane ≡ b.lane → a.last < b.first) items.items },
+    pub ghost least: { lanes ≤ length items.items },
+}
+
+/// Notes that a row is of a class.
+fn note_class(spans: &mut Vec<Span>, class: usize, row: usize) -> Result<(), AllocError> {
+    for span in spans.iter_mut() {
+        if span.class == class {
+            span.last = row;
+            return Ok(());
+        }
+    }
+    spans.push(Span {
+        class,
+        first: row,
+        last: row,
+    })?;
+    Ok(())
+}
+
+/// The classes by their first rows, each with that and its last one.
+fn spans_of(alloc: Global, nets: &[Target]) -> Result<Vec<Span>, AllocError> {
+    let mut spans = Vec::new(alloc);
+    for (at, net) in nets.iter().enumerate() {
+        if let Target::Pair(class) = net {
+            note_class(&mut spans, *class, at)?;
+        }
+    }
+    Ok(spans)
+}
+
+/// Whether some of these classes takes a lane from a row on.
+fn is_taken(classes: &[ClassLane], lane: usize, first: usize) -> bool
+    ensures { result ≡ false → All (λ c. c.lane ≡ lane → c.last < first) classes.now }
+{
+    for class in classes {
+        if class.lane == lane && class.last >= first {
+            return true;
+        }
+    }
+    false
+}
+
+/// The least of some lanes that none of these classes takes from a row on, or the next one.
+fn free_lane(classes: &[ClassLane], lanes: usize, first: usize) -> usize
+    requires { All (λ c. c.lane < lanes) classes.now }
+    ensures free { All (λ c. c.lane ≡ result → c.last < first) classes.now }
+    ensures least { result ≤ lanes }
+{
+    for lane in 0..lanes {
+        if !is_taken(classes, lane, first) {
+            return lane;
+        }
+    }
+    lanes
+}
+
+impl Classes {
+    /// Adds a class behind the others, in the least lane that is free from its first row on.
+    fn push(&mut self, span: Span) -> Result<(), AllocError> {
+        let lane = free_lane(&self.items, self.lanes, span.first);
+        self.items.push(ClassLane {
+            class: span.class,
+            first: span.first,
+            last: span.last,
+            lane,
+        })?;
+        self.lanes = self.lanes.max(lane + 1);
+        Ok(())
+    }
+}
+
+/// The classes of the rows with their lanes.
+pub fn class_lanes(alloc: Global, nets: &[Target]) -> Result<Classes, AllocError> {
+    let spans = spans_of(alloc, nets)?;
+    let mut classes = Classes {
+        items: Vec::new(alloc),
+        lanes: 0,
+    };
+    for span in &spans {
+        classes.push(*span)?;
+    }
+    Ok(classes)
+}
+
+/// A panel in the order of the picture.
+#[derive(Clone, Copy)]
+pub struct Placed {
+    pub panel: usize,
+    /// The first row that leads to it.
+    pub first: Option<usize>,
+}
+
+/// The first row that leads to a panel.
+fn first_row(nets: &[Target], panel: usize) -> Option<usize> {
+    for (at, net) in nets.iter().enumerate() {
+        if *net == Target::Panel(panel) {
+            return Some(at);
+        }
+    }
+    None
+}
+
+/// Adds the grants that rows lead to in the order in which they do first.
+fn add_named(
+    placed: &mut Vec<Placed>,
+    nets: &[Target],
+    panels: &[Panel],
+) -> Result<(), AllocError> {
+    for (at, net) in nets.iter().enumerate() {
+        if let Target::Panel(panel) = net {
+            let is_first = first_row(nets, *panel) == Some(at);
+            if is_first && panels.get(*panel).is_some_and(|found| found.is_grant) {
+                placed.push(Placed {
+                    panel: *panel,
+                    first: Some(at),
+                })?;
+            }
+        }
+    }
+    Ok(())
+}
+
+/// Adds the other panels: grants that no row leads to, or what is no grant.
+fn add_others(
+    placed: &mut Vec<Placed>,
+    nets: &[Target],
+    panels: &[Panel],
+    are_grants: bool,
+) -> Result<(), AllocError> {
+    for (panel, found) in panels.iter().enumerate() {
+        let first = first_row(nets, panel);
+        if found.is_grant == are_grants && !(are_grants && first.is_some()) {
+            placed.push(Placed { panel, first })?;
+        }
+    }
+    Ok(())
+}
+
+/// The panels in the order of the picture: as rows first lead to them, then the other grants, and last what is in no grant.
+pub fn placed_panels(
+    alloc: Global,
+    nets: &[Target],
+    panels: &[Panel],
+) -> Result<Vec<Placed>, AllocError> {
+    let mut placed = Vec::new(alloc);
+    add_named(&mut placed, nets, panels)?;
+    add_others(&mut placed, nets, panels, true)?;
+    add_others(&mut placed, nets, panels, false)?;
+    Ok(placed)
+}
