@@ -187,7 +187,7 @@ fn add_sizes(html: &mut Html, picture: &Picture) -> Result<(), AllocError> {
 }
 
 /// Adds who reaches what: the picture, wide and narrow, and the same in words.
-pub fn add_picture(html: &mut Html, picture: &Picture) {
+pub(crate) fn add_picture(html: &mut Html, picture: &Picture) {
     put!(html; "<section id=\"picture\"><h2>Who reaches what</h2><p class=\"h\">Boxes are programs, outside capability mode and in it, with what each may hold there at most. \
         Grey panels are the file tree by grants; lines on the left are pairs of sockets, blue where descriptors pass.</p>\n");
     if add_sizes(html, picture).is_err() {

@@ -236,7 +236,7 @@ pub fn split_line(text: &[u8], room: usize) -> (&[u8], &[u8])
 }
 
 /// How many words are in a text with blanks between them.
-pub fn count_words(text: &[u8]) -> u32 {
+pub(crate) fn count_words(text: &[u8]) -> u32 {
     let mut count: u32 = 0;
     let mut is_between = true;
     for byte in text {

@@ -18,7 +18,7 @@ impl Verdict {
 }
 
 /// Adds what no reader sees: the title, the style, and that nothing is fetched and nothing runs.
-pub fn add_head(html: &mut Html, header: &Header) {
+pub(crate) fn add_head(html: &mut Html, header: &Header) {
     put!(html; "<!DOCTYPE html>\n<html lang=\"en\"><head><meta charset=\"utf-8\"><meta name=\"viewport\" content=\"width=device-width,initial-scale=1\">\
         <meta http-equiv=\"Content-Security-Policy\" content=\"default-src 'none'; style-src 'unsafe-inline'\"><title>Capcheck: ");
     put!(html; Shown(&header.title), ", ", Shown(&header.task), "</title>\n<style>\n");
@@ -73,7 +73,7 @@ fn add_column(html: &mut Html, column: &Column) {
 }
 
 /// Adds the header: the files, the verdict, and two columns.
-pub fn add_header(html: &mut Html, sheet: &Sheet) {
+pub(crate) fn add_header(html: &mut Html, sheet: &Sheet) {
     let header = &sheet.header;
     put!(html; "<header><div class=\"file\"><span>Capcheck of <b>", Shown(&header.task), "</b>");
     if let Some(certificate) = &header.certificate {

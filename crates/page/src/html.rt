@@ -1,5 +1,7 @@
 //! HTML that grows. Nothing gets into it but constants of this crate, numbers, names, and texts that are escaped.
 
+ghost use Rattle.std.specs.Prelude.{◌≡◌, [], false, length, true};
+
 use crate::escaping::add_shown;
 use crate::sentences::Place;
 use std::alloc::Global;
@@ -13,29 +15,39 @@ pub struct Html {
 
 impl Html {
     /// Nothing yet.
-    pub fn new(alloc: Global) -> Html {
+    pub fn new(alloc: Global) -> Html
+        ensures text { result.page.bytes.items ≡ [] }
+        ensures whole { result.page.is_short ≡ false }
+    {
         Html {
             page: Page::new(alloc),
         }
     }
 
     /// The page that it is.
-    pub fn as_page(&self) -> &Page {
+    pub fn as_page(&self) -> &Page
+        ensures { result.now ≡ self.now.page }
+    {
         &self.page
     }
 
     /// How many bytes it has.
-    pub fn len(&self) -> usize {
+    pub(crate) fn len(&self) -> usize
+        ensures { result ≡ length self.now.page.bytes.items }
+    {
         self.page.as_bytes().len()
     }
 
     /// Where its memory comes from.
-    pub fn alloc(&self) -> Global {
+    pub(crate) fn alloc(&self) -> Global {
         self.page.alloc()
     }
 
     /// Notes that memory was refused for something that should stand in it.
-    pub fn fail(&mut self) {
+    pub(crate) fn fail(&mut self)
+        ensures short { self.new.page.is_short ≡ true }
+        ensures same { self.new.page.bytes ≡ self.old.page.bytes }
+    {
         self.page.fail()
     }
 }

@@ -105,7 +105,7 @@ impl Classes {
 }
 
 /// The classes of the rows with their lanes.
-pub fn class_lanes(alloc: Global, nets: &[Target]) -> Result<Classes, AllocError> {
+pub(crate) fn class_lanes(alloc: Global, nets: &[Target]) -> Result<Classes, AllocError> {
     let spans = spans_of(alloc, nets)?;
     let mut classes = Classes {
         items: Vec::new(alloc),

@@ -156,7 +156,7 @@ fn panels_top(size: &Size, boxes: &Board) -> u32
 }
 
 /// The rows of a picture, and what follows from what they lead to.
-pub fn plan_of<'p>(alloc: Global, picture: &'p Picture) -> Result<Plan<'p>, AllocError> {
+pub(crate) fn plan_of<'p>(alloc: Global, picture: &'p Picture) -> Result<Plan<'p>, AllocError> {
     let rows = rows_of(alloc, picture)?;
     let nets = nets_of(alloc, &rows)?;
     let classes = class_lanes(alloc, &nets)?;

@@ -192,7 +192,7 @@ fn add_listing(html: &mut Html, listing: &Listing, room: usize) {
 }
 
 /// Adds the programs.
-pub fn add_listings(html: &mut Html, listings: &[Listing]) {
+pub(crate) fn add_listings(html: &mut Html, listings: &[Listing]) {
     put!(html; "<section id=\"programs\"><h2>Programs</h2>\n<p class=\"h\">Blue rows are in the mode, and a dotted edge is in it or not. \
         Each column behind the mode is a descriptor: black of a grant, blue an end of a pair, red of no grant in the mode, dotted where it may be closed.</p>\n");
     let start = html.len();

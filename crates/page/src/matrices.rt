@@ -213,7 +213,7 @@ fn add_points(html: &mut Html, points: &[PointGroup]) {
 }
 
 /// Adds the rights in the mode.
-pub fn add_matrix(html: &mut Html, matrix: &Matrix) {
+pub(crate) fn add_matrix(html: &mut Html, matrix: &Matrix) {
     put!(html; "<section id=\"rights\"><h2>Rights in the mode</h2><p class=\"h\">All rights that some descriptor of a program may have in a grant, \
         at any point in the mode, sorted by what they are for.</p>\n\
         <div class=\"x\" tabindex=\"0\" role=\"group\" aria-label=\"Rights by program and grant\"><table class=\"mx\">");

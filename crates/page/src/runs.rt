@@ -211,7 +211,7 @@ fn add_steps(html: &mut Html, run: &Run) {
 }
 
 /// Adds a run.
-pub fn add_run(html: &mut Html, run: &Run) {
+pub(crate) fn add_run(html: &mut Html, run: &Run) {
     put!(html; "<section id=\"run\"><h2>The run</h2><p class=\"h\">Time goes down, and each process has a lane: thin outside the mode, blue in it. \
         A blue curve is a descriptor that is passed, a thin one a byte.</p>\n");
     if run.left_out > 0 {

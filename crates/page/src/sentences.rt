@@ -21,7 +21,7 @@ pub enum Tone {
 
 impl Tone {
     /// The class of its letters.
-    pub fn class(self) -> &'static str {
+    pub(crate) fn class(self) -> &'static str {
         match self {
             Tone::Plain => "",
             Tone::Faint => "mute",
@@ -32,7 +32,7 @@ impl Tone {
     }
 
     /// The class of its lines and points.
-    pub fn line_class(self) -> &'static str {
+    pub(crate) fn line_class(self) -> &'static str {
         match self {
             Tone::Plain => "p",
             Tone::Faint => "thin",
@@ -85,7 +85,7 @@ fn add_piece(html: &mut Html, piece: &Piece) {
 }
 
 /// Adds a sentence.
-pub fn add_sentence(html: &mut Html, sentence: &[Piece]) {
+pub(crate) fn add_sentence(html: &mut Html, sentence: &[Piece]) {
     for piece in sentence {
         add_piece(html, piece);
     }

@@ -144,6 +144,6 @@ const NARROW_STYLE: &str = "\
     ";
 
 /// Adds the style.
-pub fn add_style(html: &mut Html) {
+pub(crate) fn add_style(html: &mut Html) {
     put!(html; WORDS_STYLE, PICTURE_STYLE, LISTING_STYLE, NARROW_STYLE)
 }
