@@ -1,6 +1,6 @@
 //! The arguments of a call, as strace writes them.
 
-ghost use Rattle.std.specs.Prelude.{◌≡◌, ◌<◌, IfOk, IfSome, length, map};
+ghost use Rattle.std.specs.Prelude.{◌≡◌, ◌<◌, IfOk, IfSome, length, map, slice_index};
 ghost use Rattle.texts.specs.Bytes.{comma};
 ghost use Rattle.texts.specs.Parts.{joined};
 
@@ -84,13 +84,14 @@ impl Depth {
     }
 }
 
-/// Where the bracket stands that closes a call's arguments.
-pub(crate) fn close_of(text: &[u8]) -> Option<usize>
-    ensures { IfSome result (λ at. at < length text.now) }
+/// Where a byte first stands that belongs to no string, bracket or note.
+fn first_at_top(text: &[u8], sought: u8) -> Option<usize>
+    ensures within { IfSome result (λ at. at < length text.now) }
+    ensures there { IfSome result (λ at. slice_index text.now at ≡ sought) }
 {
     let mut depth = Depth::first();
     for (at, byte) in text.iter().enumerate() {
-        if *byte == b')' && depth.is_top() {
+        if *byte == sought && depth.is_top() {
             return Some(at);
         }
         depth = depth.behind(*byte);
@@ -98,20 +99,23 @@ pub(crate) fn close_of(text: &[u8]) -> Option<usize>
     None
 }
 
+/// Where the bracket stands that closes a call's arguments.
+pub(crate) fn close_of(text: &[u8]) -> Option<usize>
+    ensures { IfSome result (λ at. at < length text.now) }
+{
+    first_at_top(text, b')')
+}
+
 /// The arguments of a call: the parts between the commas that stand in no string, bracket or note. With the commas they are the text.
 pub fn arguments<'t>(alloc: Global, text: &'t [u8]) -> Result<Vec<&'t [u8]>, AllocError>
     ensures { IfOk result (λ parts. joined comma (map (λ part. part.now) parts.items) ≡ text.entry.now) }
 {
     let mut parts = Vec::new(alloc);
-    let mut depth = Depth::first();
-    let mut start = 0;
-    for (at, byte) in text.iter().enumerate() {
-        if *byte == b',' && depth.is_top() {
-            parts.push(&text[start..at])?;
-            start = at + 1;
-        }
-        depth = depth.behind(*byte);
+    let mut rest = text;
+    while let Some(at) = first_at_top(rest, b',') {
+        parts.push(&rest[..at])?;
+        rest = &rest[at + 1..];
     }
-    parts.push(&text[start..])?;
+    parts.push(rest)?;
     Ok(parts)
 }

@@ -1,6 +1,6 @@
 //! Calls that work on a descriptor, as calls.
 
-use crate::argument_values::Mention;
+use crate::argument_values::{Mention, has_word};
 use crate::entries::{Outcome, Reason};
 use crate::forms::OnDescriptor;
 use crate::held::MAX_FOLLOWED;
@@ -158,10 +158,10 @@ const COMMANDS: [(&str, Command); 15] = [
     ("F_GETLK64", Command::Lock),
 ];
 
-/// The command of an fcntl, if it is known.
-fn command_of(seen: &SeenCall<'_>) -> Option<Command> {
-    for (name, command) in &COMMANDS {
-        if seen.has(1, name.as_bytes()) {
+/// The first of these commands that an argument names.
+fn command_among(commands: &[(&str, Command)], argument: &[u8]) -> Option<Command> {
+    for (name, command) in commands {
+        if has_word(argument, name.as_bytes()) {
             return Some(*command);
         }
     }
@@ -170,7 +170,7 @@ fn command_of(seen: &SeenCall<'_>) -> Option<Command> {
 
 /// An fcntl.
 fn add_fcntl(run: &mut Run, seen: &SeenCall<'_>, mention: Mention<'_>) {
-    let Some(command) = command_of(seen) else {
+    let Some(command) = command_among(&COMMANDS, seen.argument(1)) else {
         return run.omit(seen, Reason::Unknown);
     };
     match command {

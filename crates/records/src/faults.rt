@@ -6,7 +6,6 @@ ghost use Rattle.records.specs.declared.faults.LineFault.TheVariants as line;
 ghost use Rattle.records.specs.FaultViews.{fault_of_line};
 
 use std::alloc::{AllocError, AllocFailed};
-use thiserror::Error;
 
 /// Why words are none of a line.
 #[derive(Clone, Copy)]
@@ -34,22 +33,17 @@ impl<T: Drop> From<AllocFailed<T>> for LineFault {
 }
 
 /// Why bytes are no text of recorded calls: the first faulty line counts. The number is that line's, counted from 1.
-#[derive(Clone, Copy, Debug, Error)]
+#[derive(Clone, Copy)]
 pub enum CallsFault {
     /// A line has no form that a line has there, or no line feed ends it.
-    #[error("line {0}: no line of recorded calls")]
     Form(usize),
     /// The counts of the last line aren't those of the lines before it.
-    #[error("line {0}: the counts aren't those of the lines before")]
     Counts(usize),
-    /// There is no last line.
-    #[error("line {0}: the last line, which begins with end, is missing")]
+    /// There is no last line, which begins with `end`.
     NoEnd(usize),
     /// Something stands behind the last line.
-    #[error("line {0}: something stands behind the last line")]
     Behind(usize),
     /// A growth was refused.
-    #[error("no memory")]
     Memory,
 }
 

@@ -256,12 +256,17 @@ fn is_among(names: &str, name: &[u8]) -> bool {
     false
 }
 
-/// What a call is, by its name.
-pub(crate) fn form_of(name: &[u8]) -> Form {
-    for (names, form) in &FORMS {
+/// What a call is by these forms.
+fn form_among(forms: &[(&str, Form)], name: &[u8]) -> Form {
+    for (names, form) in forms {
         if is_among(names, name) {
             return *form;
         }
     }
     Form::LeftOut(Reason::Name)
+}
+
+/// What a call is, by its name.
+pub(crate) fn form_of(name: &[u8]) -> Form {
+    form_among(&FORMS, name)
 }

@@ -14,18 +14,30 @@ use texts::{Page, first_part};
 /// How many names of rights are listed at most.
 const MOST_NAMES: usize = 128;
 
-/// A name of a right or a command, as the calls here have it.
-fn spelt(name: &[u8]) -> &[u8] {
-    if name == b"RECV".as_slice() {
-        b"READ"
-    } else if name == b"SEND".as_slice() {
-        b"WRITE"
-    } else if name == b"PREAD".as_slice() {
-        b"READ,SEEK"
-    } else if name == b"PWRITE".as_slice() {
-        b"WRITE,SEEK"
-    } else {
-        name
+/// The names that the calls here have otherwise.
+const SPELLINGS: [(&str, &str); 4] = [
+    ("RECV", "READ"),
+    ("SEND", "WRITE"),
+    ("PREAD", "READ,SEEK"),
+    ("PWRITE", "WRITE,SEEK"),
+];
+
+/// A name of a right or a command, by these spellings.
+fn spelt<'t>(spellings: &[(&'t str, &'t str)], name: &'t [u8]) -> &'t [u8] {
+    for (own, spelling) in spellings {
+        if name == own.as_bytes() {
+            return spelling.as_bytes();
+        }
+    }
+    name
+}
+
+/// Adds a name that stands behind this beginning, as the calls here have it, behind a comma.
+fn add_name(page: &mut Page, word: &[u8], beginning: &[u8]) {
+    let (word, _blanks) = first_part(without_spaces(word), b' ');
+    if let Some(name) = after(word, beginning) {
+        page.bytes(b",");
+        page.bytes(spelt(&SPELLINGS, name));
     }
 }
 
@@ -35,11 +47,7 @@ fn listed(alloc: Global, argument: &[u8], beginning: &[u8]) -> Option<Page> {
     let mut page = Page::new(alloc);
     for _ in 0..MOST_NAMES {
         let (word, behind) = first_part(rest, b',');
-        let (word, _blanks) = first_part(without_spaces(word), b' ');
-        if let Some(name) = after(word, beginning) {
-            page.bytes(b",");
-            page.bytes(spelt(name));
-        }
+        add_name(&mut page, word, beginning);
         let Some(behind) = behind else {
             break;
         };

@@ -1,8 +1,8 @@
 //! The entries of a record as they are gathered: all of them within the limits of recorded calls.
 
 ghost use Rattle.std.specs.Prelude.{◌≡◌, ◌≤◌, IfOk, true};
-ghost use Rattle.records.specs.Calls.{are_calls, is_call_name, is_event};
-ghost use Rattle.records.specs.EntryViews.{calls_seen, event_seen};
+ghost use Rattle.records.specs.Calls.{are_calls, is_call_name, is_entry, is_event};
+ghost use Rattle.records.specs.EntryViews.{calls_seen, event_seen, record_entry_seen};
 
 use crate::entries::{Entry, Event, LeftOut, Reason, Span, WantedRight};
 use crate::other_rights::OtherRight;
@@ -45,6 +45,21 @@ impl When {
             process,
         }
     }
+
+    /// The entry of what happens then.
+    fn entry(self, event: Event) -> Entry
+        requires { is_event (event_seen event) ≡ true }
+        ensures { is_entry (record_entry_seen result) ≡ true }
+    {
+        Entry {
+            span: Span {
+                first: self.first,
+                last: self.last,
+            },
+            process: self.process,
+            event,
+        }
+    }
 }
 
 /// A call that is left out, and perhaps a right of a descriptor that is wanted for it.
@@ -81,8 +96,8 @@ pub(crate) struct Log {
 
 impl Log {
     ghost use Rattle.std.specs.Prelude.{◌≡◌, IfOk, true};
-    ghost use Rattle.records.specs.Calls.{are_calls, is_event};
-    ghost use Rattle.records.specs.EntryViews.{calls_seen, event_seen};
+    ghost use Rattle.records.specs.Calls.{are_calls, is_entry, is_event};
+    ghost use Rattle.records.specs.EntryViews.{calls_seen, event_seen, record_entry_seen};
 
     /// No entry.
     pub(crate) fn new(alloc: Global) -> Log {
@@ -92,24 +107,22 @@ impl Log {
         }
     }
 
+    /// Adds an entry, if there is memory for it.
+    fn push(&mut self, entry: Entry)
+        requires { is_entry (record_entry_seen entry) ≡ true }
+    {
+        if self.entries.push(entry).is_err() {
+            self.is_short = true;
+        }
+    }
+
     /// Adds what happened, if there was memory for it.
     pub(crate) fn add(&mut self, when: When, event: Result<Event, AllocError>)
         requires { IfOk event (λ event. is_event (event_seen event) ≡ true) }
     {
-        let Ok(event) = event else {
-            self.is_short = true;
-            return;
-        };
-        let entry = Entry {
-            span: Span {
-                first: when.first,
-                last: when.last,
-            },
-            process: when.process,
-            event,
-        };
-        if self.entries.push(entry).is_err() {
-            self.is_short = true;
+        match event {
+            Ok(event) => self.push(when.entry(event)),
+            Err(_) => self.is_short = true,
         }
     }
 

@@ -1,6 +1,6 @@
 //! Calls that work by a name, as calls.
 
-use crate::argument_values::{Mention, here_note};
+use crate::argument_values::{Mention, has_word, here_note};
 use crate::entries::{Outcome, Reason};
 use crate::forms::OnName;
 use crate::known::About;
@@ -18,11 +18,15 @@ const ROOT: Mention<'static> = Mention {
     note: b"/",
 };
 
+/// Whether an argument names nothing.
+fn is_unnamed(argument: &[u8]) -> bool {
+    matches!(argument, [b'"', b'"']) || has_word(argument, b"NULL")
+}
+
 /// Whether a status is asked of a descriptor itself: by an empty name.
 fn is_of_itself(seen: &SeenCall<'_>) -> bool {
-    let is_unnamed = seen.argument(1) == b"\"\"".as_slice() || seen.has(1, b"NULL");
     let may_be_unnamed = seen.has(2, b"AT_EMPTY_PATH") || seen.has(3, b"AT_EMPTY_PATH");
-    is_unnamed && may_be_unnamed && here_note(seen.argument(0)).is_none()
+    may_be_unnamed && is_unnamed(seen.argument(1)) && here_note(seen.argument(0)).is_none()
 }
 
 /// What the node of a descriptor is.

@@ -1,5 +1,6 @@
 //! Opens, as calls.
 
+use crate::argument_values::has_word;
 use crate::entries::{Outcome, Reason};
 use crate::forms::Opening;
 use crate::held::Kept;
@@ -41,11 +42,21 @@ fn flags_of(seen: &SeenCall<'_>, at: usize) -> Option<OpenFlags> {
     OpenFlags::new(both || !write, write, append, create, trunc)
 }
 
-/// Whether an open fails for what the calls here have no flag for: that the file be new, or a directory.
-fn is_asked_more(seen: &SeenCall<'_>, at: usize) -> bool {
-    (seen.has(at, b"O_EXCL") && seen.error == b"EEXIST".as_slice())
-        || (seen.has(at, b"O_DIRECTORY") && seen.error == b"ENOTDIR".as_slice())
-        || (seen.has(at, b"O_NOFOLLOW") && seen.error == b"ELOOP".as_slice())
+/// The flags of an open that the calls here don't have, each with the error that it brings about: that the file be new, or a directory, or no link.
+const ASKED_MORE: [(&str, &str); 3] = [
+    ("O_EXCL", "EEXIST"),
+    ("O_DIRECTORY", "ENOTDIR"),
+    ("O_NOFOLLOW", "ELOOP"),
+];
+
+/// Whether an open with these flags fails for one of those.
+fn is_asked_more(asked: &[(&str, &str)], flags: &[u8], error: &[u8]) -> bool {
+    for (flag, brought) in asked {
+        if error == brought.as_bytes() && has_word(flags, flag.as_bytes()) {
+            return true;
+        }
+    }
+    false
 }
 
 /// What an opened descriptor is of, where the record doesn't note it.
@@ -100,7 +111,7 @@ pub(crate) fn take(run: &mut Run, seen: &SeenCall<'_>, opening: Opening) {
         Opening::Creat => OpenFlags::new(false, true, false, true, true),
         Opening::Plain | Opening::At => flags_of(seen, at),
     };
-    let outcome = if is_asked_more(seen, at) {
+    let outcome = if is_asked_more(&ASKED_MORE, seen.argument(at), seen.error) {
         None
     } else {
         seen.outcome

@@ -67,21 +67,26 @@ pub(crate) fn take(run: &mut Run, seen: &SeenCall<'_>, pairing: Pairing) {
     }
 }
 
-/// Another number for an end of the world's pair, if one is made.
-fn add_world(run: &mut Run, seen: &SeenCall<'_>, made: Option<Mention<'_>>) {
-    let number = run.known.process.table.world_number();
-    let world = Mention { number, note: b"" };
+/// Another number for the end of the world's pair that has this one, if one is made.
+fn add_world(run: &mut Run, seen: &SeenCall<'_>, world: u32, made: Option<Mention<'_>>) {
+    let world = Mention {
+        number: world,
+        note: b"",
+    };
     run.add_on(seen, Call::Dup, world, made, seen.outcome);
 }
 
-/// Takes a call that makes a descriptor of the world: another number for an end of the world's pair.
+/// Takes a call that makes a descriptor of the world: another number for an end of the world's pair that the process had before.
 pub(crate) fn take_world(run: &mut Run, seen: &SeenCall<'_>) {
+    let world = run.known.process.table.world_number();
     match seen.outcome {
         Some(Outcome::Success(number)) => {
             run.known.hold(number, WORLD, closes_on_exec(seen.text));
-            add_world(run, seen, Some(Mention { number, note: b"" }));
+            add_world(run, seen, world, Some(Mention { number, note: b"" }));
         }
-        Some(Outcome::Failure(Errno::EMFILE | Errno::ENFILE)) => add_world(run, seen, None),
+        Some(Outcome::Failure(Errno::EMFILE | Errno::ENFILE)) => {
+            add_world(run, seen, world, None)
+        }
         _ => run.omit(seen, Reason::Unknown),
     }
 }

@@ -54,6 +54,8 @@ pub(crate) struct Processes {
     processes: Vec<Process>,
     /// Which process a thread is of.
     threads: BTreeMap<u32, usize>,
+    /// Whether memory was refused for something that should be known.
+    pub is_short: bool,
 }
 
 impl Processes {
@@ -63,6 +65,7 @@ impl Processes {
             alloc,
             processes: Vec::new(alloc),
             threads: BTreeMap::new(alloc),
+            is_short: false,
         }
     }
 
@@ -87,59 +90,69 @@ impl Processes {
     }
 
     /// Takes a thread for the first one of a process that the record gave no number yet.
-    pub(crate) fn take_for_leader(&mut self, index: usize, thread: u32) -> Result<(), AllocError> {
+    pub(crate) fn take_for_leader(&mut self, index: usize, thread: u32) {
         if index < self.processes.len() {
             self.processes[index].leader = thread;
         }
-        self.add_thread(index, thread)
+        self.add_thread(index, thread);
     }
 
-    /// Adds a process.
-    fn add(&mut self, process: Process) -> Result<usize, AllocError> {
+    /// Adds a process: the index that it has, if there was memory for it.
+    fn add(&mut self, process: Process) -> usize {
         let index = self.processes.len();
-        self.threads.insert(process.number, index)?;
-        self.processes.push(process)?;
-        Ok(index)
+        self.add_thread(index, process.number);
+        if self.processes.push(process).is_err() {
+            self.is_short = true;
+        }
+        index
+    }
+
+    /// The descriptors of a process, if there was memory for them.
+    fn table(&mut self, table: Result<Table, AllocError>) -> Table {
+        match table {
+            Ok(table) => table,
+            Err(_) => {
+                self.is_short = true;
+                Table::empty(self.alloc)
+            }
+        }
     }
 
     /// A process of which nothing is known but its number.
-    pub(crate) fn begin(&mut self, number: u32) -> Result<usize, AllocError> {
-        let table = Table::first(self.alloc)?;
+    pub(crate) fn begin(&mut self, number: u32) -> usize {
+        let table = self.table(Table::first(self.alloc));
         self.add(Process::new(number, table))
     }
 
     /// Begins the child of a process, with a copy of what it has.
-    fn fork(&mut self, parent: usize, number: u32) -> Result<(), AllocError> {
-        if parent >= self.processes.len() {
-            return Ok(());
-        }
-        let from = &self.processes[parent];
-        let mut child = Process::new(number, from.table.copy(self.alloc)?);
-        child.directory = from.directory;
-        child.root = from.root;
-        self.add(child)?;
-        Ok(())
+    fn fork(&mut self, parent: usize, number: u32) {
+        let Some(from) = self.processes.get(parent) else {
+            return;
+        };
+        let (directory, root) = (from.directory, from.root);
+        let table = from.table.copy(self.alloc);
+        let mut child = Process::new(number, self.table(table));
+        child.directory = directory;
+        child.root = root;
+        self.add(child);
     }
 
     /// Says that a thread is of a process.
-    fn add_thread(&mut self, index: usize, thread: u32) -> Result<(), AllocError> {
-        self.threads.insert(thread, index)?;
-        Ok(())
+    fn add_thread(&mut self, index: usize, thread: u32) {
+        if self.threads.insert(thread, index).is_err() {
+            self.is_short = true;
+        }
     }
 
     /// Makes known what a process has made: a thread or a child, if it isn't known already.
-    pub(crate) fn begin_child(
-        &mut self,
-        parent: usize,
-        child: u32,
-        is_thread: bool,
-    ) -> Result<(), AllocError> {
+    pub(crate) fn begin_child(&mut self, parent: usize, child: u32, is_thread: bool) {
         if self.find_going_on(child).is_some() {
-            Ok(())
-        } else if is_thread {
-            self.add_thread(parent, child)
+            return;
+        }
+        if is_thread {
+            self.add_thread(parent, child);
         } else {
-            self.fork(parent, child)
+            self.fork(parent, child);
         }
     }
 

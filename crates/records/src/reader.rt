@@ -90,32 +90,55 @@ impl<'t> Reader<'t> {
         None
     }
 
-    /// The process of a thread: of one that isn't known, the child of the fork that began last.
-    fn process_of(&mut self, thread: u32) -> Result<usize, AllocError> {
-        if let Some(process) = self.known_process(thread) {
-            return Ok(process);
-        }
+    /// Takes the thread for a child of the fork that began last, if there is one.
+    fn take_for_child(&mut self, thread: u32) {
         if let Some((parent, is_thread)) = self.last_fork() {
             self.forks.pop();
-            self.processes.begin_child(parent, thread, is_thread)?;
+            self.processes.begin_child(parent, thread, is_thread);
         }
-        if let Some(process) = self.processes.find(thread) {
-            return Ok(process);
-        }
+    }
+
+    /// The process of a thread that no call has made.
+    fn first_process(&mut self, thread: u32) -> usize {
         match self.processes.find(0) {
-            Some(process) if self.unnamed == 0 => self.take_for_unnamed(process, thread),
+            Some(process) if self.unnamed == 0 => {
+                self.take_for_unnamed(process, thread);
+                process
+            }
             _ => self.processes.begin(thread),
         }
     }
 
+    /// The process of a thread: of one that isn't known, the child of the fork that began last.
+    fn process_of(&mut self, thread: u32) -> usize {
+        if let Some(process) = self.known_process(thread) {
+            return process;
+        }
+        self.take_for_child(thread);
+        match self.processes.find(thread) {
+            Some(process) => process,
+            None => self.first_process(thread),
+        }
+    }
+
     /// Takes a thread for the one of the lines before, which told none: it goes on with the call that began there.
-    fn take_for_unnamed(&mut self, process: usize, thread: u32) -> Result<usize, AllocError> {
-        self.processes.take_for_leader(process, thread)?;
+    fn take_for_unnamed(&mut self, process: usize, thread: u32) {
+        self.processes.take_for_leader(process, thread);
         self.unnamed = thread;
         if let Some(begun) = self.begun.remove(&0) {
-            self.begun.insert(thread, begun)?;
+            self.set_begun(thread, begun);
         }
-        Ok(process)
+    }
+
+    /// Notes at which call a thread is: the one at which it was before.
+    fn set_begun(&mut self, thread: u32, begun: Begun<'t>) -> Option<Begun<'t>> {
+        match self.begun.insert(thread, begun) {
+            Ok(earlier) => earlier,
+            Err(_) => {
+                self.processes.is_short = true;
+                None
+            }
+        }
     }
 
     /// The process of a thread, if it is known: not of one that is the first of a process which has ended, while a fork may make another of its number.
@@ -146,14 +169,15 @@ impl<'t> Reader<'t> {
         text: &[u8],
         returned: CallResult<'_>,
     ) -> Result<(), AllocError> {
-        let process = self.process_of(thread)?;
+        let process = self.process_of(thread);
         let when = When::new(first, last, self.processes.number(process));
         let parts = arguments(self.alloc, text)?;
         self.take_seen(
             process,
             &SeenCall::new(when, thread, name, text, &parts, returned),
         );
-        self.take_made(process, name, text, returned)
+        self.take_made(process, name, text, returned);
+        Ok(())
     }
 
     /// Makes known what a fork has made.
@@ -163,12 +187,11 @@ impl<'t> Reader<'t> {
         name: CallName<'_>,
         text: &[u8],
         returned: CallResult<'_>,
-    ) -> Result<(), AllocError> {
-        match returned.answer {
-            Answer::Number(child) if is_fork(name.bytes) => {
-                self.processes.begin_child(process, child, is_thread(text))
+    ) {
+        if let Answer::Number(child) = returned.answer {
+            if is_fork(name.bytes) {
+                self.processes.begin_child(process, child, is_thread(text));
             }
-            _ => Ok(()),
         }
     }
 
@@ -180,7 +203,7 @@ impl<'t> Reader<'t> {
         name: &'t [u8],
         arguments: &'t [u8],
     ) -> Result<(), AllocError> {
-        self.process_of(thread)?;
+        self.process_of(thread);
         if is_fork(name) {
             self.forks.push(BegunFork { thread, line })?;
         }
@@ -194,7 +217,7 @@ impl<'t> Reader<'t> {
 
     /// Notes that a thread is at a call that has begun: another one at which it was before never came back.
     fn go_on_with(&mut self, thread: u32, begun: Begun<'t>) -> Result<(), AllocError> {
-        match self.begun.insert(thread, begun)? {
+        match self.set_begun(thread, begun) {
             Some(earlier) => self.give_up(thread, earlier),
             None => Ok(()),
         }
@@ -209,7 +232,7 @@ impl<'t> Reader<'t> {
         rest: &[u8],
         returned: CallResult<'_>,
     ) -> Result<(), AllocError> {
-        self.process_of(thread)?;
+        self.process_of(thread);
         let Some(begun) = self.begun.get(&thread).copied() else {
             return Ok(());
         };
@@ -247,7 +270,7 @@ impl<'t> Reader<'t> {
         if is_end(begun.name) {
             return self.take_call(line, line, thread, name, begun.arguments, UNTOLD);
         }
-        let process = self.process_of(thread)?;
+        let process = self.process_of(thread);
         let when = When::new(line, line, self.processes.number(process));
         self.run.omit_at(when, Reason::Unknown, name);
         Ok(())
@@ -315,6 +338,9 @@ impl<'t> Reader<'t> {
         ensures { IfOk result (λ entries. are_calls (calls_seen entries.items) ≡ true) }
     {
         self.give_up_all()?;
+        if self.processes.is_short {
+            return Err(AllocError);
+        }
         self.run.into_entries()
     }
 }

@@ -33,6 +33,14 @@ fn path_operand(path: Vec<u8>) -> Operand
     Operand::Path(path)
 }
 
+/// The operand that is the path of a page.
+fn copied_operand(alloc: Global, page: &Page) -> Result<Operand, AllocError>
+    ensures kind { IfOk result (λ operand. is_of_kind A_path (operand_seen operand) ≡ true) }
+    ensures within { IfOk result (λ operand. is_real_operand (operand_seen operand) ≡ true) }
+{
+    Ok(path_operand(Vec::from_slice(alloc, page.finish()?)?))
+}
+
 /// The operand that is how a file is opened.
 fn flags_operand(flags: OpenFlags) -> Operand
     ensures kind { is_of_kind Open_flags (operand_seen result) ≡ true }
@@ -66,7 +74,7 @@ fn operand_of(alloc: Global, given: &Given<'_>) -> Result<Operand, AllocError>
 {
     match given {
         Given::Number(number) => Ok(Operand::Number(*number)),
-        Given::Path(path) => Ok(path_operand(Vec::from_slice(alloc, path.finish()?)?)),
+        Given::Path(path) => copied_operand(alloc, path),
         Given::Flags(flags) => Ok(flags_operand(*flags)),
         Given::Directory(asked) => Ok(Operand::Directory(*asked)),
         Given::Rights(names) => Ok(rights_operand(names.finish()?)),

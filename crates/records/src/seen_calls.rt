@@ -40,16 +40,23 @@ fn made_of(returned: CallResult<'_>) -> Option<Mention<'_>> {
     }
 }
 
-/// What a call came to, if that has a counterpart here. Linux's EPERM has none: it is of owners.
-fn outcome_of(returned: CallResult<'_>) -> Option<Outcome> {
-    let error = returned.error.unwrap_or(b"");
-    match returned.answer {
+/// The error of this name, if it has a counterpart here. Linux's EPERM has none: it is of owners.
+fn error_named(name: &[u8]) -> Option<Errno> {
+    if name == b"EPERM".as_slice() {
+        None
+    } else if name == b"ESPIPE".as_slice() {
+        Some(Errno::EINVAL)
+    } else {
+        find_error(name).ok()
+    }
+}
+
+/// What a call came to, if that has a counterpart here.
+fn outcome_of(answer: Answer<'_>, error: &[u8]) -> Option<Outcome> {
+    match answer {
         Answer::Number(number) => Some(Outcome::Success(number)),
-        _ if error == b"ESPIPE".as_slice() => Some(Outcome::Failure(Errno::EINVAL)),
-        Answer::Failure if error != b"EPERM".as_slice() => {
-            Some(Outcome::Failure(find_error(error).ok()?))
-        }
-        _ => None,
+        Answer::Failure => Some(Outcome::Failure(error_named(error)?)),
+        Answer::Unknown | Answer::Other(_) => None,
     }
 }
 
@@ -63,6 +70,7 @@ impl<'t> SeenCall<'t> {
         arguments: &'t [&'t [u8]],
         returned: CallResult<'t>,
     ) -> SeenCall<'t> {
+        let error = returned.error.unwrap_or(b"");
         SeenCall {
             when,
             thread,
@@ -70,8 +78,8 @@ impl<'t> SeenCall<'t> {
             text,
             arguments,
             made: made_of(returned),
-            error: returned.error.unwrap_or(b""),
-            outcome: outcome_of(returned),
+            error,
+            outcome: outcome_of(returned.answer, error),
         }
     }
 

@@ -6,7 +6,7 @@ ghost use Rattle.texts.specs.Lines.{lines_of};
 use crate::argument_parts::close_of;
 use crate::strace_headers::header_of;
 use crate::strace_results::{CallResult, result_of};
-use crate::strace_texts::{after, before, is_name, number, without_spaces};
+use crate::strace_texts::{after, before, is_name, number_after, place_of, without_spaces};
 use crate::truss::read_truss_line;
 use std::alloc::{AllocError, Global};
 use texts::{Lines, first_part};
@@ -57,16 +57,26 @@ pub enum Told<'t> {
     Other,
 }
 
-/// What stands behind `+++ `: how a process ended.
-fn end_of(text: &[u8]) -> Option<Told<'_>> {
-    let text = before(text, b" +++")?;
-    if let Some(status) = after(text, b"exited with ") {
-        return Some(Told::Exited(number(status)?));
+/// How a process ended, by the words for it.
+fn ending(text: &[u8]) -> Option<Told<'_>> {
+    if let Some(status) = number_after(text, b"exited with ") {
+        return Some(Told::Exited(status));
     }
-    if let Some(process) = after(text, b"superseded by execve in pid ") {
-        return Some(Told::Superseded(number(process)?));
+    if let Some(process) = number_after(text, b"superseded by execve in pid ") {
+        return Some(Told::Superseded(process));
     }
     Some(Told::Killed(after(text, b"killed by ")?))
+}
+
+/// What a line between `+++ ` and ` +++` tells: how a process ended.
+fn end_of(text: &[u8]) -> Option<Told<'_>> {
+    ending(before(after(text, b"+++ ")?, b" +++")?)
+}
+
+/// What a line between `--- ` and ` ---` tells: a signal.
+fn signal_of(text: &[u8]) -> Option<Told<'_>> {
+    let signal = before(after(text, b"--- ")?, b" ---")?;
+    Some(Told::Signal(signal))
 }
 
 /// The arguments up to the bracket that closes them, and the result behind it.
@@ -90,15 +100,20 @@ fn resumed_of(text: &[u8]) -> Option<Told<'_>> {
     })
 }
 
+/// What a line tells that begins with `<`: the end of a call, or a remark that the end of a line before was cut off.
+fn behind_others(text: &[u8]) -> Option<Told<'_>> {
+    match after(text, b"<... ") {
+        Some(rest) => resumed_of(rest),
+        None if text == b"<unfinished ...>".as_slice() => Some(Told::Remark(text)),
+        None => None,
+    }
+}
+
 /// What stands before a remark of strace's own that a process was attached, where the remark ends the text.
 fn before_attached(text: &[u8]) -> Option<&[u8]> {
     let rest = before(text, b" attached")?;
-    for at in 0..rest.len() {
-        if after(&rest[at..], b"strace: Process ").is_some() {
-            return Some(&rest[..at]);
-        }
-    }
-    None
+    let at = place_of(rest, b"strace: Process ")?;
+    Some(&rest[..at])
 }
 
 /// The arguments of a call that goes on in another line. A remark that a process was attached may come into it: it goes on behind the remark.
@@ -111,13 +126,8 @@ fn unfinished(text: &[u8]) -> Option<&[u8]> {
     }
 }
 
-/// A call that begins on the line.
-fn call_of(text: &[u8]) -> Option<Told<'_>> {
-    let (name, rest) = first_part(text, b'(');
-    let rest = rest?;
-    if !is_name(name) {
-        return None;
-    }
+/// A call of this name, which begins on the line before this text.
+fn begun<'t>(name: &'t [u8], rest: &'t [u8]) -> Option<Told<'t>> {
     if let Some(arguments) = unfinished(rest) {
         return Some(Told::Unfinished { name, arguments });
     }
@@ -129,34 +139,27 @@ fn call_of(text: &[u8]) -> Option<Told<'_>> {
     })
 }
 
-/// What a text tells that is no call and no part of one, if it tells that.
-fn remarked(text: &[u8]) -> Option<Told<'_>> {
-    if text.is_empty() {
-        return Some(Told::Nothing);
+/// A call that begins on the line.
+fn call_of(text: &[u8]) -> Option<Told<'_>> {
+    let (name, rest) = first_part(text, b'(');
+    if is_name(name) {
+        begun(name, rest?)
+    } else {
+        None
     }
-    if text == b"<unfinished ...>".as_slice() {
-        return Some(Told::Remark(text));
-    }
-    if let Some(rest) = after(text, b"strace: ") {
-        return Some(Told::Remark(rest));
-    }
-    let signal = before(after(text, b"--- ")?, b" ---")?;
-    Some(Told::Signal(signal))
 }
 
 /// What the text behind a header tells, if it is understood.
 fn understood(text: &[u8]) -> Option<Told<'_>> {
-    if let Some(rest) = after(text, b"+++ ") {
-        return end_of(rest);
-    }
-    if let Some(rest) = after(text, b"<... ") {
-        return resumed_of(rest);
-    }
-    let remarked = remarked(text);
-    if remarked.is_some() {
-        remarked
-    } else {
-        call_of(text)
+    match text {
+        [] => Some(Told::Nothing),
+        [b'+', ..] => end_of(text),
+        [b'-', ..] => signal_of(text),
+        [b'<', ..] => behind_others(text),
+        _ => match after(text, b"strace: ") {
+            Some(remark) => Some(Told::Remark(remark)),
+            None => call_of(text),
+        },
     }
 }
 

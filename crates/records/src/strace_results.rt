@@ -68,25 +68,28 @@ fn short_hex(digits: &[u8]) -> Option<u32> {
     read_hex(digits, digits.len())
 }
 
+/// The number that a word is, in decimal or hexadecimal digits, if 32 bits hold it.
+fn any_number(word: &[u8]) -> Option<u32> {
+    match after(word, b"0x") {
+        Some(digits) => short_hex(digits),
+        None => number(word),
+    }
+}
+
+/// The answer that a word tells which is a number, or as a number begins.
+fn number_answer(word: &[u8]) -> Answer<'_> {
+    match any_number(word) {
+        Some(number) => Answer::Number(number),
+        None => Answer::Other(word),
+    }
+}
+
 /// The answer that a word tells.
 pub(crate) fn answer_of(word: &[u8]) -> Option<Answer<'_>> {
-    if word == b"?".as_slice() {
-        return Some(Answer::Unknown);
-    }
-    if word == b"-1".as_slice() {
-        return Some(Answer::Failure);
-    }
-    if let Some(number) = number(word) {
-        return Some(Answer::Number(number));
-    }
-    if let Some(digits) = after(word, b"0x") {
-        return Some(match short_hex(digits) {
-            Some(number) => Answer::Number(number),
-            None => Answer::Other(word),
-        });
-    }
     match word {
-        [b'-' | b'0'..=b'9', ..] => Some(Answer::Other(word)),
+        [b'?'] => Some(Answer::Unknown),
+        [b'-', b'1'] => Some(Answer::Failure),
+        [b'-' | b'0'..=b'9', ..] => Some(number_answer(word)),
         _ => None,
     }
 }

@@ -1,6 +1,6 @@
 //! Parts of the lines that strace writes.
 
-ghost use Rattle.std.specs.Prelude.{◌≡◌, ◌++◌, IfSome};
+ghost use Rattle.std.specs.Prelude.{◌≡◌, ◌≤◌, ◌++◌, IfSome, length};
 ghost use Rattle.std.specs.List.{list_all};
 ghost use Rattle.records.specs.Calls.{is_call_name, is_call_name_byte};
 
@@ -41,6 +41,23 @@ pub(crate) fn without_spaces(text: &[u8]) -> &[u8] {
 /// The number in decimal digits, if 32 bits hold it.
 pub(crate) fn number(word: &[u8]) -> Option<u32> {
     number_up_to(word, u32::MAX).ok()
+}
+
+/// The number that stands behind a beginning and is all of the rest, if 32 bits hold it.
+pub(crate) fn number_after(text: &[u8], beginning: &[u8]) -> Option<u32> {
+    number(after(text, beginning)?)
+}
+
+/// Where a text first has these bytes.
+pub(crate) fn place_of(text: &[u8], bytes: &[u8]) -> Option<usize>
+    ensures { IfSome result (λ at. at ≤ length text.now) }
+{
+    for at in 0..text.len() {
+        if text[at..].starts_with(bytes) {
+            return Some(at);
+        }
+    }
+    None
 }
 
 /// Whether a word is a name: letters, digits and `_`, and one of them at least.

@@ -1,10 +1,11 @@
-//! The lines that FreeBSD's `truss -f` writes: what each of them tells. (own: by truss(1) and its sources, and by no record of a FreeBSD)
+//! The lines that FreeBSD's `truss -f` writes: what each of them tells. (own: the forms are written down from memory of truss(1) and of its
+//! sources; no record of a FreeBSD was tried)
 
 use crate::argument_parts::close_of;
 use crate::names::error_of_number;
 use crate::strace::{StraceLine, Told};
 use crate::strace_results::{Answer, CallResult, answer_of};
-use crate::strace_texts::{after, is_name, number};
+use crate::strace_texts::{after, is_name, number, number_after};
 use texts::first_part;
 
 /// The text without the blanks that it begins with.
@@ -29,30 +30,27 @@ fn behind_seconds(text: &[u8]) -> &[u8] {
     }
 }
 
+/// What a call came to, with nothing noted of a descriptor.
+fn returned<'t>(answer: Answer<'t>, error: Option<&'t [u8]>) -> CallResult<'t> {
+    CallResult {
+        answer,
+        note: None,
+        error,
+    }
+}
+
 /// What a call came to: `= 3 (0x3)`, or `ERR#2 'No such file or directory'`; nothing stands behind one that doesn't return.
 fn result_of(text: &[u8]) -> Option<CallResult<'_>> {
     let text = without_blanks(text);
     if text.is_empty() {
-        return Some(CallResult {
-            answer: Answer::Unknown,
-            note: None,
-            error: None,
-        });
+        return Some(returned(Answer::Unknown, None));
     }
     if let Some(rest) = after(text, b"= ") {
         let (word, _behind) = first_part(rest, b' ');
-        return Some(CallResult {
-            answer: answer_of(word)?,
-            note: None,
-            error: None,
-        });
+        return Some(returned(answer_of(word)?, None));
     }
     let (digits, _behind) = first_part(after(text, b"ERR#")?, b' ');
-    Some(CallResult {
-        answer: Answer::Failure,
-        note: None,
-        error: error_of_number(number(digits)?),
-    })
+    Some(returned(Answer::Failure, error_of_number(number(digits)?)))
 }
 
 /// A call with its result.
@@ -79,8 +77,8 @@ fn understood(text: &[u8]) -> Option<Told<'_>> {
     if let Some(signal) = after(text, b"SIGNAL ") {
         return Some(Told::Signal(signal));
     }
-    if let Some(status) = after(text, b"process exit, rval = ") {
-        return Some(Told::Exited(number(status)?));
+    if let Some(status) = number_after(text, b"process exit, rval = ") {
+        return Some(Told::Exited(status));
     }
     if let Some(signal) = after(text, b"process killed, signal = ") {
         return Some(Told::Killed(signal));

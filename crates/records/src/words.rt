@@ -3,9 +3,10 @@
 ghost use Rattle.std.specs.Prelude.{◌≡◌, map};
 ghost use Rattle.std.specs.List.{list_all};
 ghost use Rattle.rights.specs.Views.{call_of};
-ghost use Rattle.records.specs.Calls.{is_call_name, is_call_name_byte};
+ghost use Rattle.records.specs.Calls.{Fails, Succeeds, is_call_name, is_call_name_byte};
 ghost use Rattle.records.specs.EntryViews.{left_out_seen, made_seen, outcome_seen, record_span_seen, wanted_seen};
 ghost use Rattle.records.specs.OperandViews.{kind_seen, operand_seen};
+ghost use Rattle.records.specs.Named.{error_of_word};
 ghost use Rattle.records.specs.ReadingViews.{Reads, Takes};
 ghost use Rattle.records.specs.Readings.{left_out_of, made_of, real_number_at, real_operand_at, operands_at, outcome_at, read_number, read_word, record_span_at, wanted_of};
 ghost use Rattle.std.specs.Prelude.{option_map};
@@ -15,6 +16,7 @@ use crate::entries::{LeftOut, MadeCall, Outcome, Span, WantedRight};
 use crate::faults::LineFault;
 use crate::operands::{Kind, Operand, operand_kinds};
 use crate::quoting::unquoted;
+use crate::strace_texts::is_name;
 use crate::taking::Rest;
 use crate::{names, sets};
 use rights::Call;
@@ -71,6 +73,20 @@ fn take_operands(alloc: Global, words: &mut Rest<'_>, call: Call) -> Result<Vec<
     Ok(operands)
 }
 
+/// A success, with the number that a word is.
+fn success(word: &[u8]) -> Result<Outcome, LineFault>
+    ensures { Reads outcome_seen result (option_map Succeeds (read_number word.now)) }
+{
+    Ok(Outcome::Success(number(word)?))
+}
+
+/// The error that a word names.
+fn failure(word: &[u8]) -> Result<Outcome, LineFault>
+    ensures { Reads outcome_seen result (option_map Fails (error_of_word word.now)) }
+{
+    Ok(Outcome::Failure(names::find_error(word)?))
+}
+
 /// The next words, as an outcome.
 #[tactic(auto, unfolding(crate::specs::Readings::outcome_at))]
 fn take_outcome(words: &mut Rest<'_>) -> Result<Outcome, LineFault>
@@ -79,12 +95,12 @@ fn take_outcome(words: &mut Rest<'_>) -> Result<Outcome, LineFault>
     let mark = words.word()?;
     let word = words.word()?;
     if mark == b"=".as_slice() {
-        return Ok(Outcome::Success(number(word)?));
+        success(word)
+    } else if mark == b"!".as_slice() {
+        failure(word)
+    } else {
+        Err(LineFault::Form)
     }
-    if mark == b"!".as_slice() {
-        return Ok(Outcome::Failure(names::find_error(word)?));
-    }
-    Err(LineFault::Form)
 }
 
 /// The words behind a call's name.
@@ -131,10 +147,11 @@ pub(crate) fn has_name_bytes(word: &[u8]) -> bool
 fn read_name(alloc: Global, word: &[u8]) -> Result<Vec<u8>, LineFault>
     ensures { Reads (λ name. name.items) result (read_word word.now) }
 {
-    if word.is_empty() || !has_name_bytes(word) {
-        return Err(LineFault::Form);
+    if is_name(word) {
+        Ok(Vec::from_slice(alloc, word)?)
+    } else {
+        Err(LineFault::Form)
     }
-    Ok(Vec::from_slice(alloc, word)?)
 }
 
 /// The words behind a name that is left out: a right and a descriptor, or none.
@@ -145,11 +162,11 @@ fn read_wanted(alloc: Global, mut words: Rest<'_>) -> Result<Option<WantedRight>
     let Some(right) = words.take() else {
         return Ok(None);
     };
-    let right = read_name(alloc, right)?;
     let descriptor = take_number(&mut words)?;
     if !words.is_done() {
         return Err(LineFault::Form);
     }
+    let right = read_name(alloc, right)?;
     Ok(Some(WantedRight { right, descriptor }))
 }
 
