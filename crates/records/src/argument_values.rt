@@ -163,9 +163,13 @@ pub(crate) fn is_device(note: &[u8]) -> bool {
     behind(note, b"<char ").is_some() || behind(note, b"<block ").is_some()
 }
 
+/// The number that a text begins with, if 32 bits hold it.
+fn first_number(text: &[u8]) -> Option<u32> {
+    let (digits, _behind) = text.split_at(digits_end(text));
+    number(digits)
+}
+
 /// The number of a socket's end in a note such as `UNIX-STREAM:[42->43]`, if 32 bits hold it.
 pub(crate) fn socket_inode(note: &[u8]) -> Option<u32> {
-    let digits = behind(after(note, b"UNIX")?, b":[")?;
-    let (digits, _behind) = digits.split_at(digits_end(digits));
-    number(digits)
+    first_number(behind(after(note, b"UNIX")?, b":[")?)
 }

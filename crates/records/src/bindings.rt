@@ -4,7 +4,8 @@ ghost use Rattle.std.specs.Prelude.{◌≡◌, option_map};
 ghost use Rattle.rights.specs.Views.{side_seen};
 ghost use Rattle.records.specs.BindingViews.{Steps, awaited_seen, bound_seen};
 ghost use Rattle.records.specs.ReadingViews.{Reads};
-ghost use Rattle.records.specs.Readings.{bindings_of, descriptor_of_word, end_side_of_word, binding_step};
+ghost use Rattle.records.specs.Readings as readings;
+ghost use Rattle.records.specs.Readings.{Next, What, bindings_of, descriptor_of_word, end_side_of_word, binding_step};
 
 use crate::entries::Binding;
 use crate::faults::LineFault;
@@ -68,27 +69,52 @@ fn side_of(word: &[u8]) -> Result<Side, LineFault>
     }
 }
 
+/// What a word does where a binding may begin.
+#[tactic(auto, unfolding(crate::specs::Readings::binding_step))]
+fn next_step(word: &[u8]) -> Result<Step, LineFault>
+    ensures { Steps result (binding_step Next word.now) }
+{
+    if word == b"bytes".as_slice() {
+        return Ok(Step::Awaits(Awaited::Amount));
+    }
+    Ok(Step::Awaits(Awaited::What(descriptor_of(word)?)))
+}
+
+/// What a word does that says what this descriptor is.
+#[tactic(auto, unfolding(crate::specs::Readings::binding_step))]
+fn what_step(alloc: Global, descriptor: u32, word: &[u8]) -> Result<Step, LineFault>
+    ensures { Steps result (binding_step (What descriptor) word.now) }
+{
+    if word == b"sock".as_slice() {
+        return Ok(Step::Awaits(Awaited::Pair(descriptor)));
+    }
+    let place = unquoted(alloc, word)?;
+    Ok(Step::Binds(Binding::Place { descriptor, place }))
+}
+
+/// What a word does that says the side of a pair.
+#[tactic(auto, unfolding(crate::specs::Readings::binding_step))]
+fn side_step(descriptor: u32, pair: u32, word: &[u8]) -> Result<Step, LineFault>
+    ensures { Steps result (binding_step (readings.Side descriptor pair) word.now) }
+{
+    let side = side_of(word)?;
+    Ok(Step::Binds(Binding::End {
+        descriptor,
+        pair,
+        side,
+    }))
+}
+
 /// What the next word does.
 #[tactic(auto, unfolding(crate::specs::Readings::binding_step))]
 fn step_of(alloc: Global, awaited: Awaited, word: &[u8]) -> Result<Step, LineFault>
     ensures { Steps result (binding_step (awaited_seen awaited) word.now) }
 {
     match awaited {
-        Awaited::Next if word == b"bytes".as_slice() => Ok(Step::Awaits(Awaited::Amount)),
-        Awaited::Next => Ok(Step::Awaits(Awaited::What(descriptor_of(word)?))),
-        Awaited::What(descriptor) if word == b"sock".as_slice() => {
-            Ok(Step::Awaits(Awaited::Pair(descriptor)))
-        }
-        Awaited::What(descriptor) => Ok(Step::Binds(Binding::Place {
-            descriptor,
-            place: unquoted(alloc, word)?,
-        })),
+        Awaited::Next => next_step(word),
+        Awaited::What(descriptor) => what_step(alloc, descriptor, word),
         Awaited::Pair(descriptor) => Ok(Step::Awaits(Awaited::Side(descriptor, number(word)?))),
-        Awaited::Side(descriptor, pair) => Ok(Step::Binds(Binding::End {
-            descriptor,
-            pair,
-            side: side_of(word)?,
-        })),
+        Awaited::Side(descriptor, pair) => side_step(descriptor, pair, word),
         Awaited::Amount => Ok(Step::Awaits(Awaited::Nothing(number(word)?))),
         Awaited::Nothing(_) => Err(LineFault::Form),
     }

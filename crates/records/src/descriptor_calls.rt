@@ -205,8 +205,8 @@ pub(crate) fn take(run: &mut Run, seen: &SeenCall<'_>, form: OnDescriptor) {
     match form {
         OnDescriptor::Seek => add_seek(run, seen, mention),
         OnDescriptor::Truncate => run.add_with(seen, Call::Ftruncate, mention, 0, seen.outcome),
-        OnDescriptor::Sync => run.add_on(seen, Call::Fsync, mention, None, seen.outcome),
-        OnDescriptor::Status => run.add_on(seen, Call::Fstat, mention, None, seen.outcome),
+        OnDescriptor::Sync => run.add_plain(seen, Call::Fsync, mention),
+        OnDescriptor::Status => run.add_plain(seen, Call::Fstat, mention),
         OnDescriptor::Duplicate => add_duplicate(run, seen, mention, false),
         OnDescriptor::DuplicateTo => add_duplicate_to(run, seen, mention),
         OnDescriptor::Close => add_close(run, seen, mention, seen.outcome),

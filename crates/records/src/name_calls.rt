@@ -32,7 +32,7 @@ fn is_of_itself(seen: &SeenCall<'_>) -> bool {
 /// What the node of a descriptor is.
 fn add_own_status(run: &mut Run, seen: &SeenCall<'_>) {
     match seen.mention(0) {
-        Some(mention) => run.add_on(seen, Call::Fstat, mention, None, seen.outcome),
+        Some(mention) => run.add_plain(seen, Call::Fstat, mention),
         None => run.omit(seen, Reason::Unknown),
     }
 }

@@ -18,6 +18,7 @@ use crate::taken_calls;
 use std::alloc::{AllocError, Global};
 use std::collections::BTreeMap;
 use std::mem;
+use texts::Page;
 
 /// A call that has begun, in a line.
 #[derive(Clone, Copy)]
@@ -159,6 +160,15 @@ impl<'t> Reader<'t> {
             .exchange(process, &mut self.run.known.process);
     }
 
+    /// The arguments of a call in parts, if there is memory for them.
+    fn parts<'s>(&mut self, text: &'s [u8]) -> Option<Vec<&'s [u8]>> {
+        let parts = arguments(self.alloc, text).ok();
+        if parts.is_none() {
+            self.processes.is_short = true;
+        }
+        parts
+    }
+
     /// Takes a call of a thread that began at a line and ends at another.
     fn take_call(
         &mut self,
@@ -168,16 +178,14 @@ impl<'t> Reader<'t> {
         name: CallName<'_>,
         text: &[u8],
         returned: CallResult<'_>,
-    ) -> Result<(), AllocError> {
+    ) {
         let process = self.process_of(thread);
         let when = When::new(first, last, self.processes.number(process));
-        let parts = arguments(self.alloc, text)?;
-        self.take_seen(
-            process,
-            &SeenCall::new(when, thread, name, text, &parts, returned),
-        );
-        self.take_made(process, name, text, returned);
-        Ok(())
+        if let Some(parts) = self.parts(text) {
+            let seen = SeenCall::new(when, thread, name, text, &parts, returned);
+            self.take_seen(process, &seen);
+            self.take_made(process, name, text, returned);
+        }
     }
 
     /// Makes known what a fork has made.
@@ -195,32 +203,40 @@ impl<'t> Reader<'t> {
         }
     }
 
-    /// Takes the beginning of a call.
-    fn begin(
-        &mut self,
-        thread: u32,
-        line: u32,
-        name: &'t [u8],
-        arguments: &'t [u8],
-    ) -> Result<(), AllocError> {
-        self.process_of(thread);
-        if is_fork(name) {
-            self.forks.push(BegunFork { thread, line })?;
+    /// Notes that a thread has begun a fork, if it has.
+    fn note_fork(&mut self, thread: u32, line: u32, name: &[u8]) {
+        if is_fork(name) && self.forks.push(BegunFork { thread, line }).is_err() {
+            self.processes.is_short = true;
         }
+    }
+
+    /// Takes the beginning of a call.
+    fn begin(&mut self, thread: u32, line: u32, name: &'t [u8], arguments: &'t [u8]) {
+        self.process_of(thread);
+        self.note_fork(thread, line, name);
         let begun = Begun {
             line,
             name,
             arguments,
         };
-        self.go_on_with(thread, begun)
+        self.go_on_with(thread, begun);
     }
 
     /// Notes that a thread is at a call that has begun: another one at which it was before never came back.
-    fn go_on_with(&mut self, thread: u32, begun: Begun<'t>) -> Result<(), AllocError> {
-        match self.set_begun(thread, begun) {
-            Some(earlier) => self.give_up(thread, earlier),
-            None => Ok(()),
+    fn go_on_with(&mut self, thread: u32, begun: Begun<'t>) {
+        if let Some(earlier) = self.set_begun(thread, begun) {
+            self.give_up(thread, earlier);
         }
+    }
+
+    /// The call of this name that a thread has begun, which it is at no longer.
+    fn take_begun(&mut self, thread: u32, name: &[u8]) -> Option<Begun<'t>> {
+        let begun = self.begun.get(&thread).copied()?;
+        if begun.name != name {
+            return None;
+        }
+        self.begun.remove(&thread);
+        Some(begun)
     }
 
     /// Takes the end of a call.
@@ -231,18 +247,10 @@ impl<'t> Reader<'t> {
         name: &[u8],
         rest: &[u8],
         returned: CallResult<'_>,
-    ) -> Result<(), AllocError> {
+    ) {
         self.process_of(thread);
-        let Some(begun) = self.begun.get(&thread).copied() else {
-            return Ok(());
-        };
-        if begun.name != name {
-            return Ok(());
-        }
-        self.begun.remove(&thread);
-        match CallName::new(name) {
-            Some(name) => self.take_resumed(begun, line, thread, name, rest, returned),
-            None => Ok(()),
+        if let (Some(begun), Some(name)) = (self.take_begun(thread, name), CallName::new(name)) {
+            self.take_resumed(begun, line, thread, name, rest, returned);
         }
     }
 
@@ -255,16 +263,20 @@ impl<'t> Reader<'t> {
         name: CallName<'_>,
         rest: &[u8],
         returned: CallResult<'_>,
-    ) -> Result<(), AllocError> {
-        let mut text = Vec::from_slice(self.alloc, begun.arguments)?;
-        text.extend_from_slice(rest)?;
-        self.take_call(begun.line, line, thread, name, &text, returned)
+    ) {
+        let mut text = Page::new(self.alloc);
+        text.bytes(begun.arguments);
+        text.bytes(rest);
+        match text.finish() {
+            Ok(text) => self.take_call(begun.line, line, thread, name, text, returned),
+            Err(_) => self.processes.is_short = true,
+        }
     }
 
     /// Takes a call that never came back: it is left out, but for the end of a process.
-    fn give_up(&mut self, thread: u32, begun: Begun<'t>) -> Result<(), AllocError> {
+    fn give_up(&mut self, thread: u32, begun: Begun<'t>) {
         let Some(name) = CallName::new(begun.name) else {
-            return Ok(());
+            return;
         };
         let line = begun.line;
         if is_end(begun.name) {
@@ -273,44 +285,57 @@ impl<'t> Reader<'t> {
         let process = self.process_of(thread);
         let when = When::new(line, line, self.processes.number(process));
         self.run.omit_at(when, Reason::Unknown, name);
-        Ok(())
     }
 
-    /// Takes the end of a thread: of its process, where it is the first one and goes on.
-    fn end(&mut self, line: u32, thread: u32) -> Result<(), AllocError> {
-        if let Some(begun) = self.begun.remove(&thread) {
-            self.give_up(thread, begun)?;
-        }
+    /// Ends a process, where this is its first thread and it goes on.
+    fn end_process(&mut self, line: u32, thread: u32) {
         let Some(process) = self.processes.find(thread) else {
-            return Ok(());
+            return;
         };
         if self.processes.is_leader(process, thread) && self.processes.end(process) {
             let when = When::new(line, line, self.processes.number(process));
             self.run.log.add(when, Ok(Event::Ended));
         }
-        Ok(())
+    }
+
+    /// Takes the end of a thread: of its process, where it is the first one and goes on.
+    fn end(&mut self, line: u32, thread: u32) {
+        if let Some(begun) = self.begun.remove(&thread) {
+            self.give_up(thread, begun);
+        }
+        self.end_process(line, thread);
     }
 
     /// Takes that a thread goes on with the call that another one began.
-    fn supersede(&mut self, thread: u32, other: u32) -> Result<(), AllocError> {
-        match self.begun.remove(&other) {
-            Some(begun) => self.go_on_with(thread, begun),
-            None => Ok(()),
+    fn supersede(&mut self, thread: u32, other: u32) {
+        if let Some(begun) = self.begun.remove(&other) {
+            self.go_on_with(thread, begun);
+        }
+    }
+
+    /// Takes a call that begins and ends in one line.
+    fn take_whole(
+        &mut self,
+        number: u32,
+        thread: u32,
+        name: &[u8],
+        arguments: &[u8],
+        returned: CallResult<'_>,
+    ) {
+        if let Some(name) = CallName::new(name) {
+            self.take_call(number, number, thread, name, arguments, returned);
         }
     }
 
     /// Takes a line. One that fits no call that has begun, or isn't understood, gives nothing.
-    pub(crate) fn take(&mut self, number: u32, line: &StraceLine<'t>) -> Result<(), AllocError> {
+    pub(crate) fn take(&mut self, number: u32, line: &StraceLine<'t>) {
         let thread = line.process.unwrap_or(self.unnamed);
         match line.told {
             Told::Finished {
                 name,
                 arguments,
                 returned,
-            } => match CallName::new(name) {
-                Some(name) => self.take_call(number, number, thread, name, arguments, returned),
-                None => Ok(()),
-            },
+            } => self.take_whole(number, thread, name, arguments, returned),
             Told::Unfinished { name, arguments } => self.begin(thread, number, name, arguments),
             Told::Resumed {
                 name,
@@ -319,25 +344,24 @@ impl<'t> Reader<'t> {
             } => self.resume(number, thread, name, arguments, returned),
             Told::Exited(_) | Told::Killed(_) => self.end(number, thread),
             Told::Superseded(other) => self.supersede(thread, other),
-            _ => Ok(()),
+            _ => {}
         }
     }
 
     /// Gives up the calls that haven't ended, behind the last line.
-    fn give_up_all(&mut self) -> Result<(), AllocError> {
+    fn give_up_all(&mut self) {
         let none = BTreeMap::new(self.alloc);
         let left = mem::replace(&mut self.begun, none);
         for (thread, begun) in left {
-            self.give_up(thread, begun)?;
+            self.give_up(thread, begun);
         }
-        Ok(())
     }
 
-    /// The entries, behind the last line.
+    /// The entries, behind the last line, if there was memory for all that should be known.
     pub(crate) fn finish(mut self) -> Result<Vec<Entry>, AllocError>
         ensures { IfOk result (λ entries. are_calls (calls_seen entries.items) ≡ true) }
     {
-        self.give_up_all()?;
+        self.give_up_all();
         if self.processes.is_short {
             return Err(AllocError);
         }

@@ -1,12 +1,12 @@
 //! How the text of recorded calls is read.
 
-ghost use Rattle.std.specs.Prelude.{◌≡◌, ◌+◌, ◌<◌, ◌^◌, [], IfOk, if◌then◌else◌, length, true};
+ghost use Rattle.std.specs.Prelude.{◌≡◌, ◌+◌, ◌<◌, ◌^◌, [], IfOk, OnOk, false, if◌then◌else◌, length, true};
 ghost use Rattle.std.specs.Str.{bytes_eq};
 ghost use Rattle.records.specs.EntryViews.{calls_seen, record_entry_seen, event_seen};
-ghost use Rattle.records.specs.Calls.{RecordedCalls, are_calls};
+ghost use Rattle.records.specs.Calls.{Ended, RecordedCalls, are_calls};
 ghost use Rattle.records.specs.CallsViews.{FailsCalls, ReadsCalls};
 ghost use Rattle.records.specs.ReadingViews.{Reads, Tests};
-ghost use Rattle.records.specs.Readings.{Form, NoEnd, calls_of_text, ends_behind, entry_of_text, entry_of_words, recorded_event_of, faulty, is_counts_line, calls_behind, read_last, calls_of_lines};
+ghost use Rattle.records.specs.Readings.{Form, NoEnd, calls_of_text, ends_behind, entry_of_text, entry_of_words, recorded_event_of, faulty, is_counts_line, calls_behind, read_last, calls_of_lines, with_no_more};
 ghost use Rattle.records.specs.Texts.{calls_text, counts_line, entry_text};
 
 use crate::entries::{Entry, Event};
@@ -19,6 +19,17 @@ use crate::writing::add_end;
 use std::alloc::Global;
 use texts::{Lines, Page};
 
+/// The end of a process, if no word is left.
+fn end_of_process(words: &Rest<'_>) -> Result<Event, LineFault>
+    ensures { Reads event_seen result (with_no_more Ended words.now) }
+{
+    if words.is_done() {
+        Ok(Event::Ended)
+    } else {
+        Err(LineFault::Form)
+    }
+}
+
 /// The words behind the number of a process.
 #[tactic(auto, unfolding(crate::specs::Readings::recorded_event_of))]
 fn read_event(alloc: Global, mut words: Rest<'_>) -> Result<Event, LineFault>
@@ -29,11 +40,7 @@ fn read_event(alloc: Global, mut words: Rest<'_>) -> Result<Event, LineFault>
         return Ok(Event::Omitted(read_left_out(alloc, words)?));
     }
     if word == b"exit".as_slice() {
-        return if words.is_done() {
-            Ok(Event::Ended)
-        } else {
-            Err(LineFault::Form)
-        };
+        return end_of_process(&words);
     }
     Ok(Event::Called(read_made(alloc, find_call(word)?, words)?))
 }
@@ -53,13 +60,21 @@ fn read_words(alloc: Global, mut words: Rest<'_>) -> Result<Entry, LineFault>
     })
 }
 
+/// Whether a page has this text.
+fn is_written(page: &Page, text: &[u8]) -> Result<bool, LineFault>
+    ensures whole { OnOk result (page.now.is_short ≡ false) }
+    ensures text { Tests result (bytes_eq page.now.bytes.items text.now) }
+{
+    Ok(page.finish()? == text)
+}
+
 /// Whether a text is that of an entry.
 fn is_text_of(alloc: Global, entry: &Entry, text: &[u8]) -> Result<bool, LineFault>
     ensures { Tests result (bytes_eq (entry_text (record_entry_seen entry.now)) text.now) }
 {
     let mut page = Page::new(alloc);
     add_entry(&mut page, entry);
-    Ok(page.finish()? == text)
+    is_written(&page, text)
 }
 
 /// The entry of a line.
@@ -80,7 +95,7 @@ fn is_end_of(alloc: Global, entries: &[Entry], text: &[u8]) -> Result<bool, Line
 {
     let mut page = Page::new(alloc);
     add_end(&mut page, entries);
-    Ok(page.finish()? == text)
+    is_written(&page, text)
 }
 
 /// Why a line that no line feed ends, of this number, is none.

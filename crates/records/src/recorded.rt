@@ -29,7 +29,7 @@ fn entries_of(alloc: Global, lines: &[StraceLine<'_>]) -> Result<Vec<Entry>, All
 {
     let mut reader = Reader::new(alloc);
     for (index, line) in lines.iter().enumerate() {
-        reader.take(line_number(index), line)?;
+        reader.take(line_number(index), line);
     }
     reader.finish()
 }

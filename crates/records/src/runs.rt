@@ -132,6 +132,13 @@ impl Run {
         self.add(seen, call, &given, outcome, About::both(mention, made));
     }
 
+    /// Adds a call that is given a descriptor alone, and came to what the record says.
+    pub(crate) fn add_plain(&mut self, seen: &SeenCall<'_>, call: Call, mention: Mention<'_>)
+        requires { operand_kinds (call_of call) ≡ A_number ∷ [] }
+    {
+        self.add_on(seen, call, mention, None, seen.outcome);
+    }
+
     /// Adds a call that is given a descriptor and a number.
     pub(crate) fn add_with(
         &mut self,

@@ -10,22 +10,22 @@ pub(crate) struct Header<'t> {
     pub rest: &'t [u8],
 }
 
-/// The process, as `[pid 540] ` or `540 `.
-fn process_of(line: &[u8]) -> Header<'_> {
-    let (word, behind) = match after(line, b"[pid ") {
+/// The word that tells the process, as `[pid 540] ` or `540 `, and what stands behind it.
+fn process_word(line: &[u8]) -> (&[u8], Option<&[u8]>) {
+    match after(line, b"[pid ") {
         Some(rest) => first_part(without_spaces(rest), b']'),
         None => first_part(line, b' '),
-    };
-    match (number(word), behind) {
-        (Some(process), Some(behind)) => Header {
-            process: Some(process),
-            rest: without_spaces(behind),
-        },
-        _ => Header {
-            process: None,
-            rest: line,
-        },
     }
+}
+
+/// The process, if a line tells it.
+fn process_of(line: &[u8]) -> Option<Header<'_>> {
+    let (word, behind) = process_word(line);
+    let process = number(word)?;
+    Some(Header {
+        process: Some(process),
+        rest: without_spaces(behind?),
+    })
 }
 
 /// Whether a word is a time: digits with colons or points between them.
@@ -64,7 +64,10 @@ fn behind_part<'t>(text: &'t [u8], beginning: &[u8], end: u8) -> &'t [u8] {
 
 /// The header of a line.
 pub(crate) fn header_of(line: &[u8]) -> Header<'_> {
-    let header = process_of(line);
+    let header = process_of(line).unwrap_or(Header {
+        process: None,
+        rest: line,
+    });
     let rest = behind_time(without_spaces(header.rest));
     let rest = behind_part(rest, b"(+", b')');
     Header {
