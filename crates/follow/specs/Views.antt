@@ -1,6 +1,6 @@
 -- What the code's values stand for.
 use Rattle.std.specs.Borrow.{Bor}
-use Rattle.std.specs.Prelude.{Bool, List, map, Option, Some, None, option_map, if◌then◌else◌}
+use Rattle.std.specs.Prelude.{Bool, List, [], ◌∷◌, map, Option, Some, None, option_map, if◌then◌else◌}
 use Rattle.instruction_set.specs.Views.{syscall_of}
 use Rattle.records.specs.declared.entries.Entry.{Entry as EntryCode}
 use Rattle.records.specs.Calls.{RecordedCalls}
@@ -12,6 +12,8 @@ use Rattle.follow.specs.declared.numbers.ProcessPair.{ProcessPair as ProcessPair
 use Rattle.follow.specs.declared.numbers.Naming.{Naming as NamingCode}
 use Rattle.follow.specs.declared.given.Given.{Given as GivenCode}
 use Rattle.follow.specs.declared.given.Given.TheVariants as code
+use Rattle.follow.specs.declared.given.Rest.{Rest as RestCode}
+use Rattle.follow.specs.declared.given.Rest.TheVariants as rest
 use Rattle.follow.specs.declared.checking.Before.{Before as BeforeCode}
 use Rattle.follow.specs.declared.outcomes.Seen.{Seen as SeenCode}
 use Rattle.follow.specs.declared.transfers.Transfer.{Transfer as TransferCode}
@@ -56,6 +58,13 @@ given_of (code.Flags flags) = Flags flags
 given_of (code.Rights rights) = Rights rights.0
 given_of (code.Commands commands) = Commands commands.0
 given_of (code.Directory asked) = Directory asked
+
+-- what a call is given beside its first descriptor
+abbrev pub rest_of : RestCode → List Given
+rest_of rest.Nothing = []
+rest_of (rest.One first) = given_of first ∷ []
+rest_of (rest.Two first second) = given_of first ∷ given_of second ∷ []
+rest_of (rest.Three first second third) = given_of first ∷ given_of second ∷ given_of third ∷ []
 
 abbrev pub before_of : BeforeCode → Before
 before_of b = record { registers = b.registers; call = option_map (λ call. syscall_of call.now) b.call }

@@ -1,16 +1,16 @@
 //! What may come next in a run on its way.
 
 use crate::given::{Names, call_fits};
-use crate::leads::{Lead, Search, Trial, add_tried, code_of, event_of};
+use crate::leads::{Lead, Leads, Search, Trial, add_tried, code_of, event_of};
 use crate::numbers::{ProcessPair, model_of};
 use crate::outcomes::is_of_mode;
 use crate::standing::{next_entry, same_call};
 use crate::worlds::{Awaited, add_by_world, has_world};
 use instruction_set::{Instruction, Operand, Register, Syscall};
 use records::{Entry, Event as Recorded, MadeCall, Outcome};
-use rights::{Call, Errno, Memory};
-use std::alloc::Global;
+use rights::{Call, Errno};
 use syscalls::Event;
+use texts::Page;
 
 /// How many entries are looked at whether they may come next.
 const MOST_NEXT: usize = 16;
@@ -50,30 +50,59 @@ fn is_refusal(made: &MadeCall) -> bool {
     )
 }
 
+/// The process that the record's call has made, if it has made one.
+fn child_of(made: &MadeCall) -> Option<u32> {
+    match (made.call, made.outcome) {
+        (Call::Fork, Outcome::Success(child)) => Some(child),
+        _ => None,
+    }
+}
+
+/// What a process is to do that shows this call, which is the entry of a place.
+fn awaited_of(process: u8, made: &MadeCall, at: usize) -> Awaited {
+    Awaited {
+        process,
+        child: child_of(made),
+        is_refusal: is_refusal(made),
+        at,
+    }
+}
+
+/// Adds the run in which the call of a process shows the entry of a place where the kernel refuses it.
+fn add_refused<'a>(search: &Search<'a>, lead: &Lead<'a>, awaited: Awaited, found: &mut Leads<'a>) {
+    let event = Event {
+        process: awaited.process,
+        input: 0,
+        refuse: true,
+    };
+    add_tried(search, lead, awaited.trial(event), found);
+}
+
 /// Adds the run in which the call of a process shows the entry of a place, and where it doesn't, those in which the world moves first.
-fn add_call<'a>(
+fn add_call<'a>(search: &Search<'a>, lead: &Lead<'a>, awaited: Awaited, found: &mut Leads<'a>) {
+    if awaited.is_refusal {
+        add_refused(search, lead, awaited, found);
+    }
+    let trial = awaited.trial(event_of(awaited.process));
+    let is_shown = add_tried(search, lead, trial, found);
+    if !is_shown && has_world(lead) {
+        add_by_world(search, lead, awaited, found);
+    }
+}
+
+/// Adds the run in which a process ends, which shows the entry of a place.
+fn add_end<'a>(
     search: &Search<'a>,
     lead: &Lead<'a>,
     process: u8,
-    made: &MadeCall,
     at: usize,
-    found: &mut Vec<Lead<'a>>,
-) -> Result<(), Memory> {
-    if is_refusal(made) {
-        let event = Event {
-            process,
-            input: 0,
-            refuse: true,
-        };
-        add_tried(search, lead, &Trial::Call { event, made, at }, found)?;
-    }
-    let event = event_of(process);
-    let is_shown = add_tried(search, lead, &Trial::Call { event, made, at }, found)?;
-    if !is_shown && has_world(lead) {
-        let awaited = Awaited { process, made, at };
-        add_by_world(search, lead, awaited, found)?;
-    }
-    Ok(())
+    found: &mut Leads<'a>,
+) {
+    let trial = Trial::Step {
+        event: event_of(process),
+        shows: Some(at),
+    };
+    add_tried(search, lead, trial, found);
 }
 
 /// Adds the runs in which a process shows the entry of a place.
@@ -83,33 +112,26 @@ fn add_shown<'a>(
     process: u8,
     entry: &Entry,
     at: usize,
-    found: &mut Vec<Lead<'a>>,
-) -> Result<(), Memory> {
+    found: &mut Leads<'a>,
+) {
     match (&entry.event, lead.instruction(search.task, process)) {
         (Recorded::Called(made), Some(Instruction::Invoke { call, .. })) => {
             if may_show(search, lead, process, call, made) {
-                return add_call(search, lead, process, made, at, found);
+                add_call(search, lead, awaited_of(process, made, at), found);
             }
-            Ok(())
         }
-        (Recorded::Ended, Some(Instruction::Halt)) => {
-            let event = event_of(process);
-            let shows = Some(at);
-            add_tried(search, lead, &Trial::Step { event, shows }, found)?;
-            Ok(())
-        }
-        _ => Ok(()),
+        (Recorded::Ended, Some(Instruction::Halt)) => add_end(search, lead, process, at, found),
+        _ => {}
     }
 }
 
 /// Adds a byte, if it is one and isn't there.
-fn add_byte(bytes: &mut Vec<u8>, value: u32) -> Result<(), Memory> {
+fn add_byte(bytes: &mut Page, value: u32) {
     if let Ok(byte) = u8::try_from(value) {
-        if !bytes.contains(&byte) {
-            bytes.push(byte)?;
+        if !bytes.as_bytes().contains(&byte) {
+            bytes.bytes(&[byte]);
         }
     }
-    Ok(())
 }
 
 /// The value with which an instruction compares this register, or any where none is told.
@@ -135,33 +157,24 @@ fn compared(instruction: &Instruction, register: Option<Register>) -> Option<u32
 }
 
 /// Adds the bytes with which the comparisons of a register are that stand right behind a point.
-fn add_behind(
-    bytes: &mut Vec<u8>,
-    code: &[Instruction],
-    point: u8,
-    register: Register,
-) -> Result<(), Memory> {
-    let Some(behind) = code.get(usize::from(point) + 1..) else {
-        return Ok(());
-    };
+fn add_behind(bytes: &mut Page, code: &[Instruction], point: u8, register: Register) {
+    let behind = code.get(usize::from(point) + 1..).unwrap_or(&[]);
     for instruction in behind {
         let Some(value) = compared(instruction, Some(register)) else {
             break;
         };
-        add_byte(bytes, value)?;
-        add_byte(bytes, value.wrapping_sub(1))?;
+        add_byte(bytes, value);
+        add_byte(bytes, value.wrapping_sub(1));
     }
-    Ok(())
 }
 
 /// Adds the bytes with which all comparisons of a program are.
-fn add_all(bytes: &mut Vec<u8>, code: &[Instruction]) -> Result<(), Memory> {
+fn add_all(bytes: &mut Page, code: &[Instruction]) {
     for instruction in code {
         if let Some(value) = compared(instruction, None) {
-            add_byte(bytes, value)?;
+            add_byte(bytes, value);
         }
     }
-    Ok(())
 }
 
 /// Whether an instruction hands on what a register holds.
@@ -190,33 +203,27 @@ fn is_handed_on(code: &[Instruction], register: Register) -> bool {
 }
 
 /// Adds a byte that isn't there.
-fn add_other(bytes: &mut Vec<u8>) -> Result<(), Memory> {
+fn add_other(bytes: &mut Page) {
     for byte in 0..=255 {
-        if !bytes.contains(&byte) {
-            bytes.push(byte)?;
+        if !bytes.as_bytes().contains(&byte) {
+            bytes.bytes(&[byte]);
             break;
         }
     }
-    Ok(())
 }
 
 /// The bytes that are tried where one is read into a register at a point: those with which the comparisons right behind it are, and
 /// another one; where the register is handed on, those of all comparisons of the task, too.
-fn bytes_at(
-    search: &Search<'_>,
-    code: &[Instruction],
-    point: u8,
-    register: Register,
-) -> Result<Vec<u8>, Memory> {
-    let mut bytes = Vec::new(search.alloc);
-    add_behind(&mut bytes, code, point, register)?;
+fn bytes_at(search: &Search<'_>, code: &[Instruction], point: u8, register: Register) -> Page {
+    let mut bytes = Page::new(search.alloc);
+    add_behind(&mut bytes, code, point, register);
     if is_handed_on(code, register) {
         for named in search.task.programs() {
-            add_all(&mut bytes, named.program.code())?;
+            add_all(&mut bytes, named.program.code());
         }
     }
-    add_other(&mut bytes)?;
-    Ok(bytes)
+    add_other(&mut bytes);
+    bytes
 }
 
 /// The bytes that are tried where a process reads one into this register.
@@ -225,13 +232,22 @@ pub(crate) fn inputs(
     lead: &Lead<'_>,
     process: u8,
     register: Register,
-) -> Result<Vec<u8>, Memory> {
+) -> Page {
     match lead.machine.processes().get(process as usize) {
         Some(state) => {
             let code = code_of(search.task, state.program);
             bytes_at(search, code, state.point, register)
         }
-        None => Ok(Vec::new(search.alloc)),
+        None => Page::new(search.alloc),
+    }
+}
+
+/// The event in which a process reads this byte.
+pub(crate) fn reading(process: u8, input: u8) -> Event {
+    Event {
+        process,
+        input,
+        refuse: false,
     }
 }
 
@@ -241,37 +257,32 @@ fn add_inputs<'a>(
     lead: &Lead<'a>,
     process: u8,
     register: Register,
-    found: &mut Vec<Lead<'a>>,
-) -> Result<(), Memory> {
-    let bytes = inputs(search, lead, process, register)?;
-    for input in &bytes {
-        let event = Event {
-            process,
-            input: *input,
-            refuse: false,
+    found: &mut Leads<'a>,
+) {
+    let bytes = inputs(search, lead, process, register);
+    found.note(&bytes);
+    for input in bytes.as_bytes() {
+        let trial = Trial::Step {
+            event: reading(process, *input),
+            shows: None,
         };
-        add_tried(search, lead, &Trial::Step { event, shows: None }, found)?;
+        add_tried(search, lead, trial, found);
     }
-    Ok(())
+}
+
+/// Whether a call may show nothing.
+fn may_be_silent(call: Call) -> bool {
+    is_of_mode(call) || matches!(call, Call::Read | Call::Write)
 }
 
 /// Adds the runs in which a process goes on without showing a call.
-fn add_silent<'a>(
-    search: &Search<'a>,
-    lead: &Lead<'a>,
-    process: u8,
-    found: &mut Vec<Lead<'a>>,
-) -> Result<(), Memory> {
+fn add_silent<'a>(search: &Search<'a>, lead: &Lead<'a>, process: u8, found: &mut Leads<'a>) {
     match lead.instruction(search.task, process) {
         Some(Instruction::In { register }) => add_inputs(search, lead, process, *register, found),
-        Some(Instruction::Invoke { call, .. }) => {
-            let call = call.call();
-            if is_of_mode(call) || matches!(call, Call::Read | Call::Write) {
-                add_tried(search, lead, &Trial::Silent(process), found)?;
-            }
-            Ok(())
+        Some(Instruction::Invoke { call, .. }) if may_be_silent(call.call()) => {
+            add_tried(search, lead, Trial::Silent(process), found);
         }
-        _ => Ok(()),
+        _ => {}
     }
 }
 
@@ -281,26 +292,20 @@ fn add_next<'a>(
     lead: &Lead<'a>,
     entry: &Entry,
     at: usize,
-    found: &mut Vec<Lead<'a>>,
-) -> Result<(), Memory> {
-    let Some(process) = stand_in(&lead.progress.pairs, entry.process) else {
-        return Ok(());
-    };
-    add_shown(search, lead, process, entry, at, found)?;
-    add_tried(search, lead, &Trial::Skip(at), found)?;
-    add_silent(search, lead, process, found)
+    found: &mut Leads<'a>,
+) {
+    if let Some(process) = stand_in(&lead.progress.pairs, entry.process) {
+        add_shown(search, lead, process, entry, at, found);
+        add_tried(search, lead, Trial::Skip(at), found);
+        add_silent(search, lead, process, found);
+    }
 }
 
 /// Adds the runs that may come next.
-pub(crate) fn add_branches<'a>(
-    search: &Search<'a>,
-    lead: &Lead<'a>,
-    found: &mut Vec<Lead<'a>>,
-) -> Result<(), Memory> {
+pub(crate) fn add_branches<'a>(search: &Search<'a>, lead: &Lead<'a>, found: &mut Leads<'a>) {
     for at in 0..MOST_NEXT {
         if let Some(entry) = next_entry(&lead.progress.standing.left, at) {
-            add_next(search, lead, entry, at, found)?;
+            add_next(search, lead, entry, at, found);
         }
     }
-    Ok(())
 }

@@ -9,7 +9,7 @@ ghost use Rattle.follow.specs.Views.{placings_of, witness_of};
 use crate::branching::{add_branches, stand_in};
 use crate::checking::shows;
 use crate::digests::{Digest, digest_of};
-use crate::leads::{Lead, Progress, Search, add_branch, drop_last, event_of};
+use crate::leads::{Lead, Leads, Progress, Search, event_of};
 use crate::numbers::ProcessPair;
 use crate::places::Placing;
 use crate::standing::{Standing, has_limiting};
@@ -80,15 +80,17 @@ enum Arrival {
 #[derive(Drop)]
 struct Trail<'a> {
     /// The runs that may be gone on with, and the moves of the way to the last one that was.
-    leads: Vec<Lead<'a>>,
+    leads: Leads<'a>,
     way: Vec<Move>,
     /// The runs that come next behind that one.
-    next: Vec<Lead<'a>>,
+    next: Leads<'a>,
     met: IndexSet<Digest>,
     /// How many entries were left where most were shown, the first one of them, and the points there.
     fewest: usize,
     first_left: Option<&'a Entry>,
     points: Vec<AtPoint>,
+    /// Whether memory was refused for something of that.
+    is_short: bool,
 }
 
 /// The processes that a record's calls make.
@@ -132,14 +134,22 @@ fn first_pairs(alloc: Global, task: &Task, entries: &[Entry]) -> Result<Vec<Proc
     Ok(pairs)
 }
 
-/// What a process does next in the last run, from its names to the end of its call.
-fn outcome_in_last<'a>(process: u8, found: &mut Vec<Lead<'a>>) -> Result<LineResult, Memory> {
+/// What a process does in one step, if it does something and there is memory for it.
+fn outcome_of_step(lead: &mut Lead<'_>, process: u8) -> Option<LineResult> {
+    match lead.machine.step(event_of(process)) {
+        Ok(line) => Some(line.acted?.outcome),
+        Err(_) => {
+            lead.is_short = true;
+            None
+        }
+    }
+}
+
+/// What a process does next in a run, from its names to the end of its call.
+fn outcome_in(lead: &mut Lead<'_>, process: u8) -> LineResult {
     let mut outcome = LineResult::Ended;
-    let Some(lead) = found.last_mut() else {
-        return Ok(outcome);
-    };
     for _ in 0..MOST_LOOKUPS {
-        let Some(next) = outcome_of_step(lead, process)? else {
+        let Some(next) = outcome_of_step(lead, process) else {
             break;
         };
         outcome = next;
@@ -147,90 +157,85 @@ fn outcome_in_last<'a>(process: u8, found: &mut Vec<Lead<'a>>) -> Result<LineRes
             break;
         }
     }
-    Ok(outcome)
+    outcome
 }
 
-/// What a process does in one step.
-fn outcome_of_step(lead: &mut Lead<'_>, process: u8) -> Result<Option<LineResult>, Memory> {
-    match lead.machine.step(event_of(process)) {
-        Ok(line) => Ok(match line.acted {
-            Some(acted) => Some(acted.outcome),
-            None => None,
-        }),
-        Err(_) => Err(Memory),
-    }
-}
-
-/// Where a process stands, with what it would do.
-fn point_of(lead: &Lead<'_>, process: u8, outcome: LineResult) -> Option<AtPoint> {
+/// Where a process stands, as one that does nothing more.
+fn point_of(lead: &Lead<'_>, process: u8) -> Option<AtPoint> {
     let state = lead.machine.processes().get(process as usize)?;
     Some(AtPoint {
         process,
         program: state.program,
         point: state.point,
         in_mode: state.mode(),
-        outcome,
+        outcome: LineResult::Ended,
     })
-}
-
-/// Adds a point that isn't there.
-fn add_point(points: &mut Vec<AtPoint>, point: AtPoint) -> Result<(), Memory> {
-    if !points.contains(&point) {
-        points.push(point)?;
-    }
-    Ok(())
 }
 
 impl<'a> Trail<'a> {
     /// Before the first state.
     fn new(alloc: Global, entries: &[Entry]) -> Trail<'a> {
         Trail {
-            leads: Vec::new(alloc),
+            leads: Leads::new(alloc),
             way: Vec::new(alloc),
-            next: Vec::new(alloc),
+            next: Leads::new(alloc),
             met: IndexSet::new(alloc),
             fewest: entries.len(),
             first_left: None,
             points: Vec::new(alloc),
+            is_short: false,
         }
     }
 
     /// Begins with a run of no moves.
-    fn begin(&mut self, search: &Search<'a>, progress: Progress<'a>) -> Result<(), Memory> {
-        let Ok(machine) = Machine::<'_, LinkTree>::start(search.alloc, search.task) else {
-            return Err(Memory);
-        };
-        self.leads.push(Lead { machine, progress })?;
-        Ok(())
+    fn begin(&mut self, search: &Search<'a>, progress: Progress<'a>) {
+        match Machine::<'_, LinkTree>::start(search.alloc, search.task) {
+            Ok(machine) => {
+                self.leads.push(Lead {
+                    machine,
+                    progress,
+                    is_short: false,
+                });
+            }
+            Err(_) => self.is_short = true,
+        }
     }
 
     /// Goes on to the last run: up to where each process makes its next call.
-    fn settle(&mut self, search: &Search<'a>) -> Result<(), Memory> {
-        let Some(lead) = self.leads.last_mut() else {
-            return Ok(());
+    fn settle(&mut self, search: &Search<'a>) {
+        let Some(lead) = self.leads.runs.last_mut() else {
+            return;
         };
-        lead.settle(search)?;
+        lead.settle(search);
         self.way.truncate(lead.progress.base);
-        self.way.extend_from_slice(&lead.progress.moves)?;
+        let is_refused = self.way.extend_from_slice(&lead.progress.moves).is_err();
         lead.progress.moves.clear();
-        Ok(())
+        if is_refused || lead.is_short {
+            self.is_short = true;
+        }
     }
 
     /// Whether the last run shows all, or such a run was met.
-    fn arrive(&mut self) -> Result<Arrival, Memory> {
-        let Some(lead) = self.leads.last() else {
-            return Ok(Arrival::Met);
+    fn arrive(&mut self) -> Arrival {
+        let Some(lead) = self.leads.runs.last() else {
+            return Arrival::Met;
         };
         if lead.progress.standing.is_at_end() {
-            return Ok(Arrival::AtEnd);
+            return Arrival::AtEnd;
         }
-        let (_, is_new) = self.met.insert_full(digest_of(lead))?;
-        Ok(if is_new { Arrival::New } else { Arrival::Met })
+        match self.met.insert_full(digest_of(lead)) {
+            Ok((_, true)) => Arrival::New,
+            Ok((_, false)) => Arrival::Met,
+            Err(_) => {
+                self.is_short = true;
+                Arrival::Met
+            }
+        }
     }
 
     /// Notes how far the last run has come, if none has come further.
     fn reach(&mut self) {
-        let Some(lead) = self.leads.last() else {
+        let Some(lead) = self.leads.runs.last() else {
             return;
         };
         let left = &lead.progress.standing.left;
@@ -243,7 +248,7 @@ impl<'a> Trail<'a> {
 
     /// Which process of the last run shows the first entry that is left, if the run has come as far as any.
     fn awaited(&self) -> Option<u8> {
-        let lead = self.leads.last()?;
+        let lead = self.leads.runs.last()?;
         let left = &lead.progress.standing.left;
         if left.len() > self.fewest || self.points.len() >= MOST_POINTS {
             return None;
@@ -251,93 +256,101 @@ impl<'a> Trail<'a> {
         stand_in(&lead.progress.pairs, left.first()?.process)
     }
 
-    /// Notes the point at which a process of the last run stands.
-    fn note(&mut self, search: &Search<'a>, process: u8) -> Result<(), Memory> {
-        let Some(lead) = self.leads.last() else {
-            return Ok(());
+    /// Notes a point, if it isn't there.
+    fn add_point(&mut self, point: AtPoint) {
+        if !self.points.contains(&point) && self.points.push(point).is_err() {
+            self.is_short = true;
+        }
+    }
+
+    /// Notes the point at which a process of a run stands that may be gone on with.
+    fn note_in(&mut self, lead: &mut Lead<'a>, process: u8) {
+        let Some(mut point) = point_of(lead, process) else {
+            return;
         };
-        add_branch(search, lead, &mut self.next)?;
-        let outcome = outcome_in_last(process, &mut self.next)?;
-        drop_last(&mut self.next);
-        match point_of(lead, process, outcome) {
-            Some(point) => add_point(&mut self.points, point),
-            None => Ok(()),
+        point.outcome = outcome_in(lead, process);
+        if lead.is_short {
+            self.is_short = true;
+        }
+        self.add_point(point);
+    }
+
+    /// Notes the point at which a process of the last run stands.
+    fn note(&mut self, search: &Search<'a>, process: u8) {
+        let Some(lead) = self.leads.runs.last() else {
+            return;
+        };
+        self.next.add_branch(search, lead);
+        if let Some(mut lead) = self.next.runs.pop() {
+            self.note_in(&mut lead, process);
         }
     }
 
     /// Adds the runs that come next behind the last one, or notes where it stands.
-    fn branch(&mut self, search: &Search<'a>) -> Result<(), Memory> {
+    fn branch(&mut self, search: &Search<'a>) {
         self.reach();
-        let Some(lead) = self.leads.last() else {
-            return Ok(());
+        let Some(lead) = self.leads.runs.last() else {
+            return;
         };
-        add_branches(search, lead, &mut self.next)?;
-        if !self.next.is_empty() {
-            return Ok(());
+        add_branches(search, lead, &mut self.next);
+        if !self.next.runs.is_empty() {
+            return;
         }
-        match self.awaited() {
-            Some(process) => self.note(search, process),
-            None => Ok(()),
+        if let Some(process) = self.awaited() {
+            self.note(search, process);
         }
     }
 
     /// Takes the last of the runs that come next, which begins where the way is now.
-    fn take_next(&mut self) -> Result<(), Memory> {
-        if let Some(lead) = self.next.pop() {
-            self.leads.push(lead)?;
+    fn take_next(&mut self) {
+        if let Some(lead) = self.next.runs.pop() {
+            self.leads.push(lead);
         }
-        if let Some(lead) = self.leads.last_mut() {
+        if let Some(lead) = self.leads.runs.last_mut() {
             lead.progress.base = self.way.len();
         }
-        Ok(())
     }
 
-    /// Keeps one of the runs that come next, the last one: the first of them always, and others only while there are few.
-    fn keep_one(&mut self) -> Result<(), Memory> {
-        if self.next.len() == 1 || self.leads.len() < MOST_KEPT {
-            self.take_next()
-        } else {
-            drop_last(&mut self.next);
-            Ok(())
+    /// Keeps the runs that come next, the first of them to be gone on with first: that one always, and others only while there are few.
+    fn keep(&mut self) {
+        for _ in 0..self.next.runs.len() {
+            if self.next.runs.len() == 1 || self.leads.runs.len() < MOST_KEPT {
+                self.take_next();
+            } else {
+                self.next.drop_last();
+            }
         }
-    }
-
-    /// Keeps the runs that come next, the first of them to be gone on with first.
-    fn keep(&mut self) -> Result<(), Memory> {
-        for _ in 0..self.next.len() {
-            self.keep_one()?;
-        }
-        Ok(())
     }
 
     /// Goes on with the last run. Whether it shows all is told.
-    fn go_on(&mut self, search: &Search<'a>) -> Result<bool, Memory> {
-        self.settle(search)?;
-        match self.arrive()? {
-            Arrival::AtEnd => return Ok(true),
+    fn go_on(&mut self, search: &Search<'a>) -> bool {
+        self.settle(search);
+        match self.arrive() {
+            Arrival::AtEnd => return true,
             Arrival::Met => {}
-            Arrival::New => self.branch(search)?,
+            Arrival::New => self.branch(search),
         }
-        drop_last(&mut self.leads);
-        self.keep()?;
-        Ok(false)
+        self.leads.drop_last();
+        self.keep();
+        false
     }
 
-    /// Searches over at most so many states: the processes of the run that shows all, if one is found.
-    fn search(
-        &mut self,
-        search: &Search<'a>,
-        bound: usize,
-    ) -> Result<Option<Vec<ProcessPair>>, Memory> {
+    /// Whether memory was refused for something.
+    fn is_short(&self) -> bool {
+        self.is_short || self.leads.is_short || self.next.is_short
+    }
+
+    /// Searches over at most so many states. Whether a run is found that shows all, which is the last one then, is told.
+    fn search(&mut self, search: &Search<'a>, bound: usize) -> bool {
         for _ in 0..bound {
-            if self.leads.is_empty() {
+            if self.leads.runs.is_empty() || self.is_short() {
                 break;
             }
-            if self.go_on(search)? {
-                return Ok(self.take_pairs());
+            if self.go_on(search) {
+                return true;
             }
         }
-        Ok(None)
+        false
     }
 
     /// How far it has come that found nothing.
@@ -346,16 +359,23 @@ impl<'a> Trail<'a> {
             entry: place_of(entries, self.first_left),
             points: self.points,
             states: self.met.len(),
-            is_bounded: !self.leads.is_empty(),
+            is_bounded: !self.leads.runs.is_empty(),
         }
     }
 
     /// Takes the last run away, for its processes.
     fn take_pairs(&mut self) -> Option<Vec<ProcessPair>> {
-        match self.leads.pop() {
+        match self.leads.runs.pop() {
             Some(lead) => Some(lead.into_pairs()),
             None => None,
         }
+    }
+
+    /// What shows that the last run shows all.
+    fn take_witness(&mut self, alloc: Global) -> Option<Witness> {
+        let pairs = self.take_pairs()?;
+        let moves = mem::replace(&mut self.way, Vec::new(alloc));
+        Some(Witness { pairs, moves })
     }
 }
 
@@ -400,13 +420,17 @@ fn sought<'a>(
     bound: usize,
 ) -> Result<Option<Witness>, Memory> {
     if let Some(progress) = first_progress(search, entries)? {
-        trail.begin(search, progress)?;
+        trail.begin(search, progress);
     }
-    let Some(pairs) = trail.search(search, bound)? else {
-        return Ok(None);
-    };
-    let moves = mem::replace(&mut trail.way, Vec::new(search.alloc));
-    Ok(Some(Witness { pairs, moves }))
+    let is_found = trail.search(search, bound);
+    if trail.is_short() {
+        return Err(Memory);
+    }
+    Ok(if is_found {
+        trail.take_witness(search.alloc)
+    } else {
+        None
+    })
 }
 
 /// The same, checked by `shows`.

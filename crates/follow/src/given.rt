@@ -1,12 +1,15 @@
 //! What a call of a task is given, beside what a recorded call was given.
 
-ghost use Rattle.std.specs.Prelude.{◌≡◌, map, true};
+ghost use Rattle.std.specs.Prelude.{◌≡◌, List, map, true, ℕ};
 ghost use Rattle.instruction_set.specs.Paths.{has_path};
 ghost use Rattle.instruction_set.specs.Views.{operand_of, syscall_of};
 ghost use Rattle.kernel.specs.Answers.{operand_value};
+ghost use Rattle.records.specs.Calls as calls;
 ghost use Rattle.records.specs.OperandViews.{operand_seen};
 ghost use Rattle.follow.specs.Given.{all_fit, fits, given_to, rest_given};
-ghost use Rattle.follow.specs.Views.{given_of, namings_seen, placings_of};
+ghost use Rattle.follow.specs.Numbers.{Naming as NamingSeen};
+ghost use Rattle.follow.specs.Places.{Placing as PlacingSeen};
+ghost use Rattle.follow.specs.Views.{given_of, namings_seen, placings_of, rest_of};
 
 use crate::numbers::{Naming, is_number, named};
 use crate::places::{Placing, in_task};
@@ -62,19 +65,69 @@ fn number_fits(names: &Names<'_>, number: u32, given: &Given<'_>) -> bool
     }
 }
 
+/// Whether a path that the recorded process was given is what the task's is given.
+fn path_fits(names: &Names<'_>, path: &[u8], given: &Given<'_>) -> bool
+    ensures { result ≡ fits (placings_of names.now.placings.now) (namings_seen names.now.namings.now) names.now.process
+        (calls.Path path.now) (given_of given.now) }
+{
+    match given {
+        Given::Path(own) => in_task(names.placings, path).is(own),
+        _ => false,
+    }
+}
+
+/// Whether flags that a recorded process was given are what the task's is given, by any names.
+fn flags_fit(flags: OpenFlags, given: &Given<'_>) -> bool
+    ensures { (placings : List PlacingSeen) (namings : List NamingSeen) (process : ℕ) → result ≡ fits placings namings process (calls.Flags flags) (given_of given.now) }
+{
+    match given {
+        Given::Flags(own) => flags == *own,
+        _ => false,
+    }
+}
+
+/// The same of rights.
+fn rights_fit(rights: Rights, given: &Given<'_>) -> bool
+    ensures { (placings : List PlacingSeen) (namings : List NamingSeen) (process : ℕ) → result ≡ fits placings namings process (calls.Rights rights.0) (given_of given.now) }
+{
+    match given {
+        Given::Rights(own) => rights == *own,
+        _ => false,
+    }
+}
+
+/// The same of fcntl commands.
+fn commands_fit(commands: Fcntls, given: &Given<'_>) -> bool
+    ensures { (placings : List PlacingSeen) (namings : List NamingSeen) (process : ℕ) → result ≡ fits placings namings process (calls.Commands commands.0) (given_of given.now) }
+{
+    match given {
+        Given::Commands(own) => commands == *own,
+        _ => false,
+    }
+}
+
+/// The same of whether a directory is to be removed.
+fn choice_fits(asked: bool, given: &Given<'_>) -> bool
+    ensures { (placings : List PlacingSeen) (namings : List NamingSeen) (process : ℕ) → result ≡ fits placings namings process (calls.Directory asked) (given_of given.now) }
+{
+    match given {
+        Given::Directory(own) => asked == *own,
+        _ => false,
+    }
+}
+
 /// Whether what the recorded process was given is what the task's is given.
 fn fits(names: &Names<'_>, real: &Real, given: &Given<'_>) -> bool
     ensures { result ≡ fits (placings_of names.now.placings.now) (namings_seen names.now.namings.now) names.now.process
         (operand_seen real.now) (given_of given.now) }
 {
-    match (real, given) {
-        (Real::Number(number), _) => number_fits(names, *number, given),
-        (Real::Path(path), Given::Path(own)) => in_task(names.placings, path).is(own),
-        (Real::Flags(flags), Given::Flags(own)) => *flags == *own,
-        (Real::Rights(rights), Given::Rights(own)) => *rights == *own,
-        (Real::Commands(commands), Given::Commands(own)) => *commands == *own,
-        (Real::Directory(asked), Given::Directory(own)) => *asked == *own,
-        _ => false,
+    match real {
+        Real::Number(number) => number_fits(names, *number, given),
+        Real::Path(path) => path_fits(names, path, given),
+        Real::Flags(flags) => flags_fit(*flags, given),
+        Real::Rights(rights) => rights_fit(*rights, given),
+        Real::Commands(commands) => commands_fit(*commands, given),
+        Real::Directory(asked) => choice_fits(*asked, given),
     }
 }
 
@@ -92,51 +145,73 @@ fn all_fit(names: &Names<'_>, operands: &[Real], given: &[Given<'_>]) -> bool
     }
 }
 
-/// Whether the paths that a call is given, and what stands beside them but for its first descriptor, are what the recorded process was
-/// given.
-fn paths_fit(
-    names: &Names<'_>,
-    registers: &[u32; REGISTERS],
-    call: &Syscall,
-    operands: &[Real],
-) -> bool
+/// What a call is given beside its first descriptor.
+#[derive(Clone, Copy)]
+enum Rest<'a> {
+    Nothing,
+    One(Given<'a>),
+    Two(Given<'a>, Given<'a>),
+    Three(Given<'a>, Given<'a>, Given<'a>),
+}
+
+/// What a call is given that has a path, beside its first descriptor.
+fn path_rest<'a>(registers: &[u32; REGISTERS], call: &'a Syscall) -> Rest<'a>
     requires { has_path (syscall_of call.now) ≡ true }
-    ensures { result ≡ all_fit (placings_of names.now.placings.now) (namings_seen names.now.namings.now) names.now.process
-        (map operand_seen operands.now) (rest_given registers.now (syscall_of call.now)) }
+    ensures { rest_of result ≡ rest_given registers.now (syscall_of call.now) }
 {
     match call {
         Syscall::Open { path, flags } | Syscall::Openat { path, flags, .. } => {
-            let given = [Given::Path(path.bytes()), Given::Flags(*flags)];
-            all_fit(names, operands, &given)
+            Rest::Two(Given::Path(path.bytes()), Given::Flags(*flags))
         }
         Syscall::Unlink { path, directory }
         | Syscall::Unlinkat {
             path,
             directory,
             ..
-        } => {
-            let given = [Given::Path(path.bytes()), Given::Directory(*directory)];
-            all_fit(names, operands, &given)
-        }
+        } => Rest::Two(Given::Path(path.bytes()), Given::Directory(*directory)),
         Syscall::Renameat {
             path,
             target,
             new_path,
             ..
-        } => {
-            let target = Given::Descriptor(value_of(registers, *target));
-            let given = [
-                Given::Path(path.bytes()),
-                target,
-                Given::Path(new_path.bytes()),
-            ];
-            all_fit(names, operands, &given)
-        }
+        } => Rest::Three(
+            Given::Path(path.bytes()),
+            Given::Descriptor(value_of(registers, *target)),
+            Given::Path(new_path.bytes()),
+        ),
         Syscall::Stat { path }
         | Syscall::Mkdir { path }
         | Syscall::Fstatat { path, .. }
-        | Syscall::Mkdirat { path, .. } => all_fit(names, operands, &[Given::Path(path.bytes())]),
+        | Syscall::Mkdirat { path, .. } => Rest::One(Given::Path(path.bytes())),
         _ => unreachable!(),
+    }
+}
+
+/// What a call is given beside its first descriptor.
+fn rest_given<'a>(registers: &[u32; REGISTERS], call: &'a Syscall) -> Rest<'a>
+    ensures { rest_of result ≡ rest_given registers.now (syscall_of call.now) }
+{
+    match call {
+        Syscall::Write { .. } | Syscall::Lseek { .. } | Syscall::Ftruncate { .. } => {
+            Rest::One(Given::Amount)
+        }
+        Syscall::FcntlSetfl { flags, .. } => Rest::One(Given::Status(value_of(registers, *flags))),
+        Syscall::Sendfd { sent, .. } => Rest::Two(
+            Given::Descriptor(value_of(registers, *sent)),
+            Given::Amount,
+        ),
+        Syscall::CapRightsLimit { rights, .. } => Rest::One(Given::Rights(*rights)),
+        Syscall::CapFcntlsLimit { commands, .. } => Rest::One(Given::Commands(*commands)),
+        Syscall::Open { .. }
+        | Syscall::Openat { .. }
+        | Syscall::Stat { .. }
+        | Syscall::Mkdir { .. }
+        | Syscall::Fstatat { .. }
+        | Syscall::Mkdirat { .. }
+        | Syscall::Unlink { .. }
+        | Syscall::Unlinkat { .. }
+        | Syscall::Renameat { .. } => path_rest(registers, call),
+        _ => Rest::Nothing,
     }
 }
 
@@ -150,36 +225,11 @@ fn rest_fits(
     ensures { result ≡ all_fit (placings_of names.now.placings.now) (namings_seen names.now.namings.now) names.now.process
         (map operand_seen operands.now) (rest_given registers.now (syscall_of call.now)) }
 {
-    match call {
-        Syscall::Write { .. } | Syscall::Lseek { .. } | Syscall::Ftruncate { .. } => {
-            all_fit(names, operands, &[Given::Amount])
-        }
-        Syscall::FcntlSetfl { flags, .. } => {
-            let given = [Given::Status(value_of(registers, *flags))];
-            all_fit(names, operands, &given)
-        }
-        Syscall::Sendfd { sent, .. } => {
-            let given = [Given::Descriptor(value_of(registers, *sent)), Given::Amount];
-            all_fit(names, operands, &given)
-        }
-        Syscall::CapRightsLimit { rights, .. } => {
-            let given = [Given::Rights(*rights)];
-            all_fit(names, operands, &given)
-        }
-        Syscall::CapFcntlsLimit { commands, .. } => {
-            let given = [Given::Commands(*commands)];
-            all_fit(names, operands, &given)
-        }
-        Syscall::Open { .. }
-        | Syscall::Openat { .. }
-        | Syscall::Stat { .. }
-        | Syscall::Mkdir { .. }
-        | Syscall::Fstatat { .. }
-        | Syscall::Mkdirat { .. }
-        | Syscall::Unlink { .. }
-        | Syscall::Unlinkat { .. }
-        | Syscall::Renameat { .. } => paths_fit(names, registers, call, operands),
-        _ => all_fit(names, operands, &[]),
+    match rest_given(registers, call) {
+        Rest::Nothing => all_fit(names, operands, &[]),
+        Rest::One(first) => all_fit(names, operands, &[first]),
+        Rest::Two(first, second) => all_fit(names, operands, &[first, second]),
+        Rest::Three(first, second, third) => all_fit(names, operands, &[first, second, third]),
     }
 }
 

@@ -9,12 +9,13 @@ use crate::witnesses::Move;
 use instruction_set::Instruction;
 use link_tree::LinkTree;
 use process::Process;
-use records::{MadeCall, Outcome};
-use rights::{Call, Memory};
+use rights::Memory;
 use simulator::{LineResult, Machine};
 use std::alloc::Global;
+use std::marker::Model;
 use syscalls::Event;
 use task::Task;
+use texts::Page;
 
 /// How many steps a call takes at most: one for each name of its paths, and of the links that they lead through.
 const MOST_LOOKUPS: usize = 32_768;
@@ -42,11 +43,26 @@ pub(crate) struct Progress<'a> {
     pub base: usize,
 }
 
-/// A run on its way.
+/// A run on its way. Where memory was refused for a step of it, that is noted, and the step doesn't count.
 #[derive(Drop)]
 pub(crate) struct Lead<'a> {
     pub machine: Machine<'a, LinkTree>,
     pub progress: Progress<'a>,
+    pub is_short: bool,
+}
+
+/// Nothing is claimed of one: what is found is judged by `shows`.
+impl<'a> Model for Lead<'a> {
+    ghost Value = { Unit {0} };
+
+    ghost view = { λ _. tt };
+}
+
+/// Runs on their way. Where memory was refused for one, it isn't there, and that is noted.
+#[derive(Drop)]
+pub(crate) struct Leads<'a> {
+    pub runs: Vec<Lead<'a>>,
+    pub is_short: bool,
 }
 
 /// An event without a byte.
@@ -142,40 +158,18 @@ pub(crate) fn code_of(task: &Task, program: u8) -> &[Instruction] {
     }
 }
 
-/// What is seen of one step of a run.
-fn seen_step<'a>(
-    search: &Search<'a>,
-    machine: &mut Machine<'a, LinkTree>,
-    event: Event,
-) -> Result<Option<Seen<'a>>, Memory> {
-    match watched_step(search.task, machine, event) {
-        Ok(watched) => Ok(watched.seen),
-        Err(_) => Err(Memory),
-    }
-}
-
-/// Adds a run that goes on from where another one is.
-pub(crate) fn add_branch<'a>(
-    search: &Search<'a>,
-    lead: &Lead<'a>,
-    found: &mut Vec<Lead<'a>>,
-) -> Result<(), Memory> {
-    found.push(lead.branch(search.alloc)?)?;
-    Ok(())
-}
-
 /// What is tried in a run.
 #[derive(Clone, Copy)]
-pub(crate) enum Trial<'m> {
+pub(crate) enum Trial {
     /// A step, which may show the entry of a place.
     Step {
         event: Event,
         shows: Option<usize>,
     },
-    /// A call, up to where it has come back, that shows the entry of a place.
+    /// A call, up to where it has come back, that shows the entry of a place, and in the record has made this process, if it has made one.
     Call {
         event: Event,
-        made: &'m MadeCall,
+        child: Option<u32>,
         at: usize,
     },
     /// A call of this process that shows nothing.
@@ -186,45 +180,85 @@ pub(crate) enum Trial<'m> {
     World(Event),
 }
 
-/// Tries something in the last run. Whether it may be is told.
-fn try_last<'a>(
-    search: &Search<'a>,
-    trial: &Trial<'_>,
-    found: &mut Vec<Lead<'a>>,
-) -> Result<bool, Memory> {
-    match found.last_mut() {
-        Some(lead) => lead.tries(search, trial),
-        None => Ok(false),
-    }
-}
-
 /// Adds the run in which something is tried, if it may be. Whether it may is told.
 pub(crate) fn add_tried<'a>(
     search: &Search<'a>,
     lead: &Lead<'a>,
-    trial: &Trial<'_>,
-    found: &mut Vec<Lead<'a>>,
-) -> Result<bool, Memory> {
-    add_branch(search, lead, found)?;
-    let may = try_last(search, trial, found)?;
-    if !may {
-        drop_last(found);
+    trial: Trial,
+    found: &mut Leads<'a>,
+) -> bool {
+    if !found.add_branch(search, lead) {
+        return false;
     }
-    Ok(may)
+    let may = found.try_last(search, trial);
+    if !may {
+        found.drop_last();
+    }
+    may
 }
 
-/// Drops the last run.
-pub(crate) fn drop_last(found: &mut Vec<Lead<'_>>) {
-    found.pop();
+impl<'a> Leads<'a> {
+    /// No run.
+    pub(crate) fn new(alloc: Global) -> Leads<'a> {
+        Leads {
+            runs: Vec::new(alloc),
+            is_short: false,
+        }
+    }
+
+    /// Adds a run, if there is memory for it. Whether there is is told.
+    pub(crate) fn push(&mut self, lead: Lead<'a>) -> bool {
+        if self.runs.push(lead).is_err() {
+            self.is_short = true;
+            return false;
+        }
+        true
+    }
+
+    /// Adds a run that goes on from where another one is. Whether there was memory for it is told.
+    pub(crate) fn add_branch(&mut self, search: &Search<'a>, lead: &Lead<'a>) -> bool {
+        match lead.branch(search.alloc) {
+            Ok(branch) => self.push(branch),
+            Err(_) => {
+                self.is_short = true;
+                false
+            }
+        }
+    }
+
+    /// Tries something in the last run. Whether it may be is told.
+    fn try_last(&mut self, search: &Search<'a>, trial: Trial) -> bool {
+        match self.runs.last_mut() {
+            Some(lead) => {
+                let may = lead.tries(search, trial);
+                self.is_short = self.is_short || lead.is_short;
+                may
+            }
+            None => false,
+        }
+    }
+
+    /// Drops the last run.
+    pub(crate) fn drop_last(&mut self) {
+        self.runs.pop();
+    }
+
+    /// Notes whether memory was refused for what should stand on a page.
+    pub(crate) fn note(&mut self, page: &Page) {
+        if page.finish().is_err() {
+            self.is_short = true;
+        }
+    }
 }
 
 impl<'a> Lead<'a> {
     /// The same once more.
     fn branch(&self, alloc: Global) -> Result<Lead<'a>, Memory> {
-        let progress = self.progress.copy(alloc)?;
+        let machine = self.machine.copy()?;
         Ok(Lead {
-            machine: self.machine.copy()?,
-            progress,
+            progress: self.progress.copy(alloc)?,
+            machine,
+            is_short: false,
         })
     }
 
@@ -244,107 +278,138 @@ impl<'a> Lead<'a> {
         }
     }
 
+    /// What is seen of one step, if it is seen.
+    fn seen_step(&mut self, search: &Search<'a>, event: Event) -> Option<Seen<'a>> {
+        match watched_step(search.task, &mut self.machine, event) {
+            Ok(watched) => watched.seen,
+            Err(_) => {
+                self.is_short = true;
+                None
+            }
+        }
+    }
+
+    /// Whether something may be, if there was memory to tell.
+    fn told(&mut self, may: Result<bool, Memory>) -> bool {
+        match may {
+            Ok(may) => may,
+            Err(_) => {
+                self.is_short = true;
+                false
+            }
+        }
+    }
+
     /// One step. It is to show the entry of a place, if it is the last one of its call. What it came to is told, if it may be.
     fn step(
         &mut self,
         search: &Search<'a>,
         event: Event,
         shows: Option<usize>,
-    ) -> Result<Option<LineResult>, Memory> {
-        let Some(seen) = seen_step(search, &mut self.machine, event)? else {
-            return Ok(None);
-        };
+    ) -> Option<LineResult> {
+        let seen = self.seen_step(search, event)?;
         let shows = match seen.outcome {
             LineResult::Walking | LineResult::Waiting => None,
             _ => shows,
         };
-        if !self.progress.step(search, event, &seen, shows)? {
-            return Ok(None);
+        let may = self.progress.step(search, event, &seen, shows);
+        if self.told(may) {
+            Some(seen.outcome)
+        } else {
+            None
         }
-        Ok(Some(seen.outcome))
     }
 
     /// Runs a process on until its call has come back, which is to show the entry of a place, if one. Whether it does is told.
-    fn run_call(
-        &mut self,
-        search: &Search<'a>,
-        event: Event,
-        shows: Option<usize>,
-    ) -> Result<bool, Memory> {
+    fn run_call(&mut self, search: &Search<'a>, event: Event, shows: Option<usize>) -> bool {
         for _ in 0..MOST_LOOKUPS {
-            match self.step(search, event, shows)? {
+            match self.step(search, event, shows) {
                 Some(LineResult::Walking) => {}
-                None | Some(LineResult::Waiting) => return Ok(false),
-                Some(_) => return Ok(true),
+                None | Some(LineResult::Waiting) => return false,
+                Some(_) => return true,
             }
         }
-        Ok(false)
+        false
     }
 
     /// Skips the entry of a place, if it may be.
-    fn skip(&mut self, search: &Search<'a>, at: usize) -> Result<bool, Memory> {
-        self.progress.skip(search, self.machine.processes(), at)
+    fn skip(&mut self, search: &Search<'a>, at: usize) -> bool {
+        let may = self.progress.skip(search, self.machine.processes(), at);
+        self.told(may)
     }
 
     /// Takes a step of the world, and what the process does up to its next call. Whether something comes of it is told.
-    fn move_world(&mut self, search: &Search<'a>, event: Event) -> Result<bool, Memory> {
-        match self.step(search, event, None)? {
-            None | Some(LineResult::Waiting | LineResult::Ended) => Ok(false),
+    fn move_world(&mut self, search: &Search<'a>, event: Event) -> bool {
+        match self.step(search, event, None) {
+            None | Some(LineResult::Waiting | LineResult::Ended) => false,
             Some(_) => {
-                self.run_plain(search, event.process)?;
-                Ok(true)
+                self.run_plain(search, event.process);
+                true
             }
         }
     }
 
-    /// Notes which process the next one is that is made, if the record's call makes one.
-    fn pair_child(&mut self, made: &MadeCall) -> Result<(), Memory> {
-        let (Call::Fork, Outcome::Success(child)) = (made.call, made.outcome) else {
-            return Ok(());
-        };
+    /// Notes that the next process that is made stands for this one of the record.
+    fn pair_next(&mut self, child: u32) {
         let Ok(model) = u8::try_from(self.machine.processes().len()) else {
-            return Ok(());
+            return;
         };
-        self.progress.pair(child, model)
+        if self.progress.pair(child, model).is_err() {
+            self.is_short = true;
+        }
+    }
+
+    /// Runs a process on until its call has come back, which is to show the entry of a place. Whether it does is told.
+    fn show_call(
+        &mut self,
+        search: &Search<'a>,
+        event: Event,
+        child: Option<u32>,
+        at: usize,
+    ) -> bool {
+        if let Some(child) = child {
+            self.pair_next(child);
+        }
+        self.run_call(search, event, Some(at))
     }
 
     /// Tries something. Whether it may be is told.
-    fn tries(&mut self, search: &Search<'a>, trial: &Trial<'_>) -> Result<bool, Memory> {
+    fn tries(&mut self, search: &Search<'a>, trial: Trial) -> bool {
         match trial {
-            Trial::Step { event, shows } => Ok(self.step(search, *event, *shows)?.is_some()),
-            Trial::Call { event, made, at } => {
-                self.pair_child(made)?;
-                self.run_call(search, *event, Some(*at))
-            }
-            Trial::Silent(process) => self.run_call(search, event_of(*process), None),
-            Trial::Skip(at) => self.skip(search, *at),
-            Trial::World(event) => self.move_world(search, *event),
+            Trial::Step { event, shows } => self.step(search, event, shows).is_some(),
+            Trial::Call { event, child, at } => self.show_call(search, event, child, at),
+            Trial::Silent(process) => self.run_call(search, event_of(process), None),
+            Trial::Skip(at) => self.skip(search, at),
+            Trial::World(event) => self.move_world(search, event),
+        }
+    }
+
+    /// Whether a process stands at what it can do alone: no call, no byte and no end.
+    fn is_plain(&self, search: &Search<'a>, process: u8) -> bool {
+        match self.instruction(search.task, process) {
+            None | Some(Instruction::In { .. } | Instruction::Halt | Instruction::Invoke { .. }) =>
+                { false }
+            Some(_) => true,
         }
     }
 
     /// Runs a process on up to its next call, byte or end.
-    fn run_plain(&mut self, search: &Search<'a>, process: u8) -> Result<(), Memory> {
+    fn run_plain(&mut self, search: &Search<'a>, process: u8) {
         for _ in 0..MOST_PLAIN {
-            match self.instruction(search.task, process) {
-                None
-                | Some(Instruction::In { .. } | Instruction::Halt | Instruction::Invoke { .. }) => {
-                    break;
-                }
-                Some(_) => {}
+            if !self.is_plain(search, process) {
+                break;
             }
-            self.step(search, event_of(process), None)?;
+            self.step(search, event_of(process), None);
         }
-        Ok(())
     }
 
     /// Runs all processes that stand for the record's on so.
-    pub(crate) fn settle(&mut self, search: &Search<'a>) -> Result<(), Memory> {
+    pub(crate) fn settle(&mut self, search: &Search<'a>) {
         for at in 0..self.progress.pairs.len() {
             if at < self.progress.pairs.len() {
                 let process = self.progress.pairs[at].model;
-                self.run_plain(search, process)?;
+                self.run_plain(search, process);
             }
         }
-        Ok(())
     }
 }

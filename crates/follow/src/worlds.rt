@@ -1,15 +1,12 @@
 //! What the processes of the task do that the record doesn't have.
 
-use crate::branching::inputs;
+use crate::branching::{inputs, reading};
 use crate::digests::{Digest, digest_of};
-use crate::leads::{Lead, Search, Trial, add_branch, add_tried, drop_last, event_of};
+use crate::leads::{Lead, Leads, Search, Trial, add_tried, event_of};
 use crate::numbers::is_recorded;
 use indexmap::IndexSet;
-use instruction_set::Instruction;
-use records::MadeCall;
-use rights::Memory;
+use instruction_set::{Instruction, Register};
 use rights::limits::MAX_PROCESSES;
-use simulator::LineResult;
 use syscalls::Event;
 
 /// How many runs are tried at most.
@@ -36,113 +33,114 @@ pub(crate) fn has_world(lead: &Lead<'_>) -> bool {
     false
 }
 
-/// Adds the runs in which a process of the world moves.
-fn add_moves<'a>(
+/// Adds the runs in which a process of the world reads a byte.
+fn add_readings<'a>(
     search: &Search<'a>,
     lead: &Lead<'a>,
     process: u8,
-    next: &mut Vec<Lead<'a>>,
-) -> Result<(), Memory> {
-    let Some(Instruction::In { register }) = lead.instruction(search.task, process) else {
-        add_tried(search, lead, &Trial::World(event_of(process)), next)?;
-        return Ok(());
-    };
-    let bytes = inputs(search, lead, process, *register)?;
-    for input in &bytes {
-        let event = Event {
-            process,
-            input: *input,
-            refuse: false,
-        };
-        add_tried(search, lead, &Trial::World(event), next)?;
+    register: Register,
+    next: &mut Leads<'a>,
+) {
+    let bytes = inputs(search, lead, process, register);
+    next.note(&bytes);
+    for input in bytes.as_bytes() {
+        add_tried(search, lead, Trial::World(reading(process, *input)), next);
     }
-    Ok(())
+}
+
+/// Adds the runs in which a process of the world moves.
+fn add_moves<'a>(search: &Search<'a>, lead: &Lead<'a>, process: u8, next: &mut Leads<'a>) {
+    if let Some(Instruction::In { register }) = lead.instruction(search.task, process) {
+        add_readings(search, lead, process, *register, next);
+    } else {
+        add_tried(search, lead, Trial::World(event_of(process)), next);
+    }
 }
 
 /// Adds the runs in which the world moves once.
-fn add_moved<'a>(
-    search: &Search<'a>,
-    run: &Lead<'a>,
-    next: &mut Vec<Lead<'a>>,
-) -> Result<(), Memory> {
+fn add_moved<'a>(search: &Search<'a>, run: &Lead<'a>, next: &mut Leads<'a>) {
     for number in 0..MAX_PROCESSES as u8 {
         if is_of_world(run, usize::from(number)) {
-            add_moves(search, run, number, next)?;
+            add_moves(search, run, number, next);
         }
     }
-    Ok(())
 }
 
 /// What a process is to do once the world has moved.
 #[derive(Clone, Copy)]
-pub(crate) struct Awaited<'m> {
+pub(crate) struct Awaited {
     pub process: u8,
-    pub made: &'m MadeCall,
+    /// The process that the record's call has made, if it has made one.
+    pub child: Option<u32>,
+    /// Whether the record's call failed as one that the kernel refuses.
+    pub is_refusal: bool,
+    /// The place of the entry that it is to show.
     pub at: usize,
+}
+
+impl Awaited {
+    /// That it does that in this event, as it is tried.
+    pub(crate) fn trial(self, event: Event) -> Trial {
+        Trial::Call {
+            event,
+            child: self.child,
+            at: self.at,
+        }
+    }
 }
 
 /// The search for moves of the world that help.
 #[derive(Drop)]
 struct Moving<'a> {
     met: IndexSet<Digest>,
-    runs: Vec<Lead<'a>>,
+    runs: Leads<'a>,
     /// The runs that come next, the last of them first.
-    next: Vec<Lead<'a>>,
+    next: Leads<'a>,
     helped: usize,
+    /// Whether memory was refused for what was met.
+    is_short: bool,
 }
 
 impl<'a> Moving<'a> {
     /// Takes the next run.
-    fn take_next(&mut self) -> Result<(), Memory> {
-        if let Some(run) = self.next.pop() {
-            self.runs.push(run)?;
+    fn take_next(&mut self) {
+        if let Some(run) = self.next.runs.pop() {
+            self.runs.push(run);
         }
-        Ok(())
     }
 
     /// Notes that the last run is met. Whether it wasn't before is told.
-    fn meet(&mut self) -> Result<bool, Memory> {
-        let Some(run) = self.runs.last() else {
-            return Ok(false);
+    fn meet(&mut self) -> bool {
+        let Some(run) = self.runs.runs.last() else {
+            return false;
         };
-        let (_, is_new) = self.met.insert_full(digest_of(run))?;
-        Ok(is_new)
+        match self.met.insert_full(digest_of(run)) {
+            Ok((_, is_new)) => is_new,
+            Err(_) => {
+                self.is_short = true;
+                false
+            }
+        }
     }
 
     /// Adds the run in which the call of a process shows the entry behind the last run, if it does.
-    fn help(
-        &mut self,
-        search: &Search<'a>,
-        awaited: Awaited<'_>,
-        found: &mut Vec<Lead<'a>>,
-    ) -> Result<(), Memory> {
-        let Some(run) = self.runs.last() else {
-            return Ok(());
+    fn help(&mut self, search: &Search<'a>, awaited: Awaited, found: &mut Leads<'a>) {
+        let Some(run) = self.runs.runs.last() else {
+            return;
         };
-        let trial = Trial::Call {
-            event: event_of(awaited.process),
-            made: awaited.made,
-            at: awaited.at,
-        };
-        if add_tried(search, run, &trial, found)? {
+        let trial = awaited.trial(event_of(awaited.process));
+        if add_tried(search, run, trial, found) {
             self.helped = self.helped.wrapping_add(1);
         }
-        Ok(())
     }
 
     /// Sees whether the last run helps, unless it was met before, and is dropped.
-    fn go_to_last(
-        &mut self,
-        search: &Search<'a>,
-        awaited: Awaited<'_>,
-        found: &mut Vec<Lead<'a>>,
-    ) -> Result<(), Memory> {
-        if self.meet()? {
-            self.help(search, awaited, found)?;
+    fn go_to_last(&mut self, search: &Search<'a>, awaited: Awaited, found: &mut Leads<'a>) {
+        if self.meet() {
+            self.help(search, awaited, found);
         } else {
-            drop_last(&mut self.runs);
+            self.runs.drop_last();
         }
-        Ok(())
     }
 
     /// Goes on with the run of a place. Whether there is one is told.
@@ -150,33 +148,32 @@ impl<'a> Moving<'a> {
         &mut self,
         search: &Search<'a>,
         place: usize,
-        awaited: Awaited<'_>,
-        found: &mut Vec<Lead<'a>>,
-    ) -> Result<bool, Memory> {
-        if place >= self.runs.len() {
-            return Ok(false);
+        awaited: Awaited,
+        found: &mut Leads<'a>,
+    ) -> bool {
+        let Some(run) = self.runs.runs.get(place) else {
+            return false;
+        };
+        add_moved(search, run, &mut self.next);
+        for _ in 0..self.next.runs.len() {
+            self.take_next();
+            self.go_to_last(search, awaited, found);
         }
-        add_moved(search, &self.runs[place], &mut self.next)?;
-        for _ in 0..self.next.len() {
-            self.take_next()?;
-            self.go_to_last(search, awaited, found)?;
-        }
-        Ok(true)
+        true
     }
 
     /// Goes on by breadth, until enough moves help or there are none.
-    fn search(
-        &mut self,
-        search: &Search<'a>,
-        awaited: Awaited<'_>,
-        found: &mut Vec<Lead<'a>>,
-    ) -> Result<(), Memory> {
+    fn search(&mut self, search: &Search<'a>, awaited: Awaited, found: &mut Leads<'a>) {
         for place in 0..MOST_STEPS {
-            if !self.go_on(search, place, awaited, found)? || self.helped >= MOST_FOUND {
+            if !self.go_on(search, place, awaited, found) || self.helped >= MOST_FOUND {
                 break;
             }
         }
-        Ok(())
+    }
+
+    /// Whether memory was refused.
+    fn is_short(&self) -> bool {
+        self.is_short || self.runs.is_short || self.next.is_short
     }
 }
 
@@ -184,15 +181,19 @@ impl<'a> Moving<'a> {
 pub(crate) fn add_by_world<'a>(
     search: &Search<'a>,
     lead: &Lead<'a>,
-    awaited: Awaited<'_>,
-    found: &mut Vec<Lead<'a>>,
-) -> Result<(), Memory> {
+    awaited: Awaited,
+    found: &mut Leads<'a>,
+) {
     let mut moving = Moving {
         met: IndexSet::new(search.alloc),
-        runs: Vec::new(search.alloc),
-        next: Vec::new(search.alloc),
+        runs: Leads::new(search.alloc),
+        next: Leads::new(search.alloc),
         helped: 0,
+        is_short: false,
     };
-    add_branch(search, lead, &mut moving.runs)?;
-    moving.search(search, awaited, found)
+    moving.runs.add_branch(search, lead);
+    moving.search(search, awaited, found);
+    if moving.is_short() {
+        found.is_short = true;
+    }
 }
