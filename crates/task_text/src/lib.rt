@@ -16,5 +16,5 @@ mod program_texts;
 mod table_faults;
 mod tokens;
 
-pub use faults::add_faults;
+pub use faults::{TextFault, TextFaults, add_faults, faults_of};
 pub use program_texts::{ProgramText, Written, texts_of_file};
