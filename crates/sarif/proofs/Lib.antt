@@ -1,0 +1,3 @@
+pub mod UriLaws
+pub mod LogLaws
+mod Rows

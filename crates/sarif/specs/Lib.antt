@@ -1,0 +1,4 @@
+pub mod Logs
+pub mod Documents
+pub mod Uris
+pub mod LogViews
