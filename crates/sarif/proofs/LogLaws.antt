@@ -2,14 +2,13 @@
 use Rattle.std.proofs.Common.{◌≡◌, ℕ, List, [], ◌∷◌, Bool, false, not, refl, map}
 use Rattle.std.specs.Prelude.{Option, None, Some}
 use Rattle.std.specs.List.{position, prefix_len}
-use Rattle.std.specs.Str.{bytes_eq}
 use Rattle.std.proofs.lemmas.List.{length-map}
 use Rattle.serde_json.specs.Data.{Data}
 use Rattle.serde_json.specs.View.{items_of}
 use Rattle.serde_json.specs.Written.{has_float, items_have_float, members_have_float}
 use Rattle.sarif.specs.Documents.{column_before, finding_json, index_member, line_member, location_json, log_json, rule_json, rule_place}
-use Rattle.sarif.specs.Logs.{Finding, Log, Place, Rule as RuleSeen}
-use Rattle.sarif.specs.LogViews.{rule_seen}
+use Rattle.sarif.specs.Logs.{Finding, Id, Log, Place, Rule as RuleSeen, is_same_id}
+use Rattle.sarif.specs.LogViews.{id_seen, rule_seen}
 use Rattle.sarif.specs.declared.logs.Rule.{Rule}
 
 prefix_len-map : {A B : Type 0} (f : A → B) (p : B → Bool) (xs : List A) → prefix_len p (map f xs) ≡ prefix_len (λ x. p (f x)) xs
@@ -17,8 +16,8 @@ prefix_len-map f p [] = refl
 prefix_len-map f p (x ∷ xs) = rw (prefix_len-map f p xs) refl
 
 -- the place of a rule among the rules as they are seen
-pub rule_place-seen : (rules : List Rule) (id : List ℕ) → position (λ rule. bytes_eq rule.id.now id) rules ≡ rule_place (map rule_seen rules) id
-rule_place-seen rules id = rw (prefix_len-map rule_seen (λ rule. not (bytes_eq rule.id id)) rules, length-map rules rule_seen) refl
+pub rule_place-seen : (rules : List Rule) (id : Id) → position (λ rule. is_same_id (id_seen rule.id) id) rules ≡ rule_place (map rule_seen rules) id
+rule_place-seen rules id = rw (prefix_len-map rule_seen (λ rule. not (is_same_id rule.id id)) rules, length-map rules rule_seen) refl
 
 -- lists of values that have no float
 items-plain : {X : Type 0} (f : X → Data) → ((x : X) → has_float (f x) ≡ false) → (xs : List X) → items_have_float (items_of (map f xs)) ≡ false

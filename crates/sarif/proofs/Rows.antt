@@ -8,7 +8,7 @@ use Rattle.serde_json.proofs.OnLiterals.{serde_json_on_literals}
 use Rattle.percent_encoding.proofs.OnLiterals.{percent_encoding_on_literals}
 use Rattle.serde_json.specs.Written.{compact_text}
 use Rattle.sarif.specs.Documents.{finding_json, location_json, log_json, region_json, rule_place}
-use Rattle.sarif.specs.Logs.{Finding, Rule, error}
+use Rattle.sarif.specs.Logs.{Finding, Rule, error, id_text, named, numbered}
 use Rattle.sarif.specs.Uris.{stands_in_path, uri_of}
 
 -- a name as it is, and one with a space, a percent sign, a letter that isn't ASCII and a colon
@@ -44,24 +44,28 @@ file_text = refl
 
 two_rules : List Rule
 two_rules =
-    record { id = codes "K1"; level = error; title = codes "s"; says = codes "w"; help = codes "h" }
-    ∷ record { id = codes "K7"; level = error; title = codes "t"; says = codes "x"; help = codes "i" }
+    record { id = numbered 1; level = error; title = codes "s"; says = codes "w"; help = codes "h" }
+    ∷ record { id = named (codes "never-enters"); level = error; title = codes "t"; says = codes "x"; help = codes "i" }
     ∷ []
 
 -- the place of a rule; none of what is no rule
-second_rule : rule_place two_rules (codes "K7") ≡ Some 1
+second_rule : rule_place two_rules (named (codes "never-enters")) ≡ Some 1
 unfolding two_rules
 second_rule = refl
 
-no_rule : rule_place two_rules (codes "K2") ≡ None
+no_rule : rule_place two_rules (numbered 2) ≡ None
 unfolding two_rules
 no_rule = refl
 
+number_text : id_text (numbered 12) ≡ codes "K12"
+unfolding digits
+number_text = refl
+
 broken : Finding
-broken = record { rule = codes "K7"; level = error; message = codes "m"; place = Some (record { line = 3; column = None }); related = [] }
+broken = record { rule = named (codes "never-enters"); level = error; message = codes "m"; place = Some (record { line = 3; column = None }); related = [] }
 
 finding_text : compact_text (finding_json (codes "t") two_rules broken) ≡
-    codes "{\"level\":\"error\",\"locations\":[{\"physicalLocation\":{\"artifactLocation\":{\"uri\":\"t\"},\"region\":{\"startLine\":3}}}],\"message\":{\"text\":\"m\"},\"relatedLocations\":[],\"ruleId\":\"K7\",\"ruleIndex\":1}"
+    codes "{\"level\":\"error\",\"locations\":[{\"physicalLocation\":{\"artifactLocation\":{\"uri\":\"t\"},\"region\":{\"startLine\":3}}}],\"message\":{\"text\":\"m\"},\"relatedLocations\":[],\"ruleId\":\"never-enters\",\"ruleIndex\":1}"
 unfolding serde_json_on_literals digits utf8_lossy utf8_valid_len is_utf8 chars two_rules broken
 finding_text = refl
 

@@ -1,11 +1,10 @@
 -- The JSON of a log, in the form SARIF 2.1.0 (OASIS, 2020). An object has its members in the order of their names.
 use Rattle.std.specs.Prelude.{ℕ, List, [], ◌∷◌, map, codes, Option, None, Some}
 use Rattle.std.specs.List.{position}
-use Rattle.std.specs.Str.{bytes_eq}
 use Rattle.std.specs.Str.Lossy.{utf8_lossy}
 use Rattle.serde_json.specs.Data.{Data, string, array, object, number, unsigned, Members, member, no_members}
 use Rattle.serde_json.specs.View.{items_of}
-use Rattle.sarif.specs.Logs.{Finding, Level, Log, Place, Rule, error, note, warning}
+use Rattle.sarif.specs.Logs.{Finding, Id, Level, Log, Place, Rule, error, id_text, is_same_id, note, warning}
 
 abbrev pub level_name : Level → List ℕ
 level_name error = codes "error"
@@ -42,8 +41,8 @@ abbrev pub location_json : List ℕ → Option Place → Data
 location_json uri place = object (member (codes "physicalLocation") (physical_json uri place) no_members)
 
 -- The place of a rule with an id among the rules, counted from 0: of the first, where there is one (3.27.6).
-abbrev pub rule_place : List Rule → List ℕ → Option ℕ
-rule_place rules id = position (λ rule. bytes_eq rule.id id) rules
+abbrev pub rule_place : List Rule → Id → Option ℕ
+rule_place rules id = position (λ rule. is_same_id rule.id id) rules
 
 abbrev pub index_member : Option ℕ → Members
 index_member None = no_members
@@ -63,7 +62,7 @@ finding_json uri rules finding =
     member (codes "locations") (locations_json uri finding.place) (
     member (codes "message") (message_json (utf8_lossy finding.message)) (
     member (codes "relatedLocations") (related_json uri finding.related) (
-    member (codes "ruleId") (string finding.rule) (
+    member (codes "ruleId") (string (id_text finding.rule)) (
     index_member (rule_place rules finding.rule)))))))
 
 abbrev pub results_json : List ℕ → List Rule → List Finding → Data
@@ -76,7 +75,7 @@ rule_json rule =
     member (codes "defaultConfiguration") (object (member (codes "level") (string (level_name rule.level)) no_members)) (
     member (codes "fullDescription") (message_json rule.says) (
     member (codes "help") (message_json rule.help) (
-    member (codes "id") (string rule.id) (
+    member (codes "id") (string (id_text rule.id)) (
     member (codes "shortDescription") (message_json rule.title) no_members)))))
 
 -- The tool, with its rules (3.18, 3.19).

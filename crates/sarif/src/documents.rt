@@ -7,9 +7,10 @@ ghost use Rattle.serde_json.specs.View.{items_of, members_view, view};
 ghost use Rattle.serde_json.specs.Written.{compact_text};
 ghost use Rattle.sarif.specs.Documents as documents;
 ghost use Rattle.sarif.specs.Documents.{finding_json, location_json, locations_json, log_json, message_json, physical_json, region_json, related_json, results_json, rule_json, run_json, tool_json};
-ghost use Rattle.sarif.specs.LogViews.{finding_seen, log_seen, place_seen, rule_seen};
+ghost use Rattle.sarif.specs.Logs.{id_text};
+ghost use Rattle.sarif.specs.LogViews.{finding_seen, id_seen, log_seen, place_seen, rule_seen};
 
-use crate::logs::{Finding, Log, Place, Rule};
+use crate::logs::{Finding, Log, Place, Rule, RuleId};
 use crate::uris::uri_of;
 use serde_json::{Map, Value, json, put};
 use std::alloc::{AllocError, Global};
@@ -24,6 +25,18 @@ fn put_text(
     ensures { OnOk result (members_view members.new.entries ≡ with_member key.now (string text.now) (members_view members.old.entries)) }
 {
     put(members, alloc, key, Value::try_from_str(alloc, text)?)
+}
+
+/// Sets a member to a rule's id.
+fn put_id(
+    members: &mut Map<String, Value>,
+    alloc: Global,
+    key: &str,
+    id: &RuleId<'_>,
+) -> Result<(), AllocError>
+    ensures { OnOk result (members_view members.new.entries ≡ with_member key.now (string (id_text (id_seen id.now))) (members_view members.old.entries)) }
+{
+    put(members, alloc, key, Value::String(id.text(alloc)?))
 }
 
 /// Sets a member to an object that has one text.
@@ -90,10 +103,10 @@ fn related_value(alloc: Global, uri: &str, places: &[Place]) -> Result<Value, Al
 }
 
 /// The place of a rule with an id, counted from 0: of the first.
-fn rule_place(rules: &[Rule<'_>], id: &str) -> Option<usize>
-    ensures { result ≡ documents.rule_place (map rule_seen rules.now) id.now }
+fn rule_place(rules: &[Rule<'_>], id: &RuleId<'_>) -> Option<usize>
+    ensures { result ≡ documents.rule_place (map rule_seen rules.now) (id_seen id.now) }
 {
-    rules.iter().position(|rule| rule.id == id)
+    rules.iter().position(|rule| rule.id.is(id))
 }
 
 /// Sets where a finding is.
@@ -155,8 +168,8 @@ fn finding_value(
     put_locations(&mut members, alloc, uri, finding.place)?;
     put_told(&mut members, alloc, &finding.message)?;
     put_related(&mut members, alloc, uri, &finding.related)?;
-    put_text(&mut members, alloc, "ruleId", finding.rule)?;
-    let Some(index) = rule_place(rules, finding.rule) else {
+    put_id(&mut members, alloc, "ruleId", &finding.rule)?;
+    let Some(index) = rule_place(rules, &finding.rule) else {
         return Ok(Value::Object(members));
     };
     put(&mut members, alloc, "ruleIndex", Value::from(index))?;
@@ -183,7 +196,7 @@ fn rule_value(alloc: Global, rule: &Rule<'_>) -> Result<Value, AllocError>
     put_object(&mut members, alloc, "defaultConfiguration", "level", level)?;
     put_object(&mut members, alloc, "fullDescription", "text", rule.says)?;
     put_object(&mut members, alloc, "help", "text", rule.help)?;
-    put_text(&mut members, alloc, "id", rule.id)?;
+    put_id(&mut members, alloc, "id", &rule.id)?;
     put_object(&mut members, alloc, "shortDescription", "text", rule.title)?;
     Ok(Value::Object(members))
 }

@@ -6,4 +6,4 @@ pub mod logs;
 pub mod uris;
 
 pub use documents::log_text;
-pub use logs::{Finding, Level, Log, Place, Rule};
+pub use logs::{Finding, Level, Log, Place, Rule, RuleId};

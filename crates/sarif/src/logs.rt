@@ -1,8 +1,11 @@
 //! What a log has.
 
-ghost use Rattle.std.specs.Prelude.{◌≡◌, Option};
+ghost use Rattle.std.specs.Prelude.{◌≡◌, IfOk, string_bytes};
 ghost use Rattle.sarif.specs.Documents.{level_name};
-ghost use Rattle.sarif.specs.LogViews.{level_seen};
+ghost use Rattle.sarif.specs.Logs.{id_text, is_same_id};
+ghost use Rattle.sarif.specs.LogViews.{id_seen, level_seen};
+
+use std::alloc::{AllocError, Global};
 
 /// How much a finding weighs. (SARIF 3.27.10)
 #[derive(Clone, Copy)]
@@ -25,11 +28,45 @@ impl Level {
     }
 }
 
+/// What a rule is called in a log.
+#[derive(Clone, Copy)]
+pub enum RuleId<'a> {
+    /// A rule of the checker, by its number: `K7`.
+    Numbered(u8),
+    /// Anything else, by its name.
+    Named(&'a str),
+}
+
+impl<'a> RuleId<'a> {
+    /// Whether both are the same.
+    pub fn is(&self, other: &RuleId<'_>) -> bool
+        ensures { result ≡ is_same_id (id_seen self.now) (id_seen other.now) }
+    {
+        match (*self, *other) {
+            (RuleId::Numbered(number), RuleId::Numbered(one)) => number == one,
+            (RuleId::Named(name), RuleId::Named(one)) => name == one,
+            (RuleId::Numbered(_), RuleId::Named(_)) | (RuleId::Named(_), RuleId::Numbered(_)) => {
+                false
+            }
+        }
+    }
+
+    /// Its text.
+    pub fn text(&self, alloc: Global) -> Result<String, AllocError>
+        ensures { IfOk result (λ text. string_bytes text ≡ id_text (id_seen self.now)) }
+    {
+        match *self {
+            RuleId::Numbered(number) => format!(in alloc; "K{number}"),
+            RuleId::Named(name) => String::from_str(alloc, name),
+        }
+    }
+}
+
 /// What a finding may be of. (SARIF 3.49)
 #[derive(Clone, Copy)]
 pub struct Rule<'a> {
     /// What findings call it by.
-    pub id: &'a str,
+    pub id: RuleId<'a>,
     /// How much its findings weigh.
     pub level: Level,
     /// What it is called.
@@ -53,7 +90,7 @@ pub struct Place {
 #[derive(Drop)]
 pub struct Finding<'a> {
     /// The id of its rule.
-    pub rule: &'a str,
+    pub rule: RuleId<'a>,
     /// How much it weighs.
     pub level: Level,
     /// What is told of it. What of it is no UTF-8 is written as U+FFFD.
