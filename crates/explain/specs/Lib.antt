@@ -1,3 +1,4 @@
 pub mod TaskTexts
 pub mod Telling
 pub mod Breaking
+pub mod Beyond

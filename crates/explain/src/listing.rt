@@ -1,8 +1,9 @@
 //! The listing of a task's programs: each point with its line, its instruction and its bound.
 
-use crate::remarking::{add_remarks, add_task_remarks};
+use crate::observations::{add_remark, add_warning};
+use crate::remarking::{program_remarks, task_remarks};
 use crate::scenes::Scene;
-use crate::warning::add_warnings;
+use crate::warning::program_warnings;
 use bitflags::Flags;
 use certificate::{Bound, Cert, Held, Slot, slots_within};
 use checker::allowance_at;
@@ -61,6 +62,24 @@ fn without_bound(untrusted: bool, has_cert: bool) -> &'static str {
     }
 }
 
+/// Adds the remarks and the warnings on a program.
+fn add_observations(
+    page: &mut Page,
+    scene: &Scene<'_>,
+    bounds: &Cert,
+    program: u8,
+    has_cert: bool,
+) {
+    let remarks = program_remarks(page.alloc(), scene, usize::from(program), has_cert);
+    for remark in &page.gathered(remarks) {
+        add_remark(page, "  ", remark);
+    }
+    let warnings = program_warnings(page.alloc(), scene.task, bounds, usize::from(program));
+    for warning in &page.gathered(warnings) {
+        add_warning(page, scene, program, warning);
+    }
+}
+
 /// Adds each program with its remarks; the bounds are those of the certificate, if there is one. The numbers of a table are told
 /// where they aren't those of the point before. Warnings go by the bounds of another certificate.
 pub fn add_listing(page: &mut Page, scene: &Scene<'_>, bounds: &Cert, has_cert: bool) {
@@ -87,8 +106,10 @@ pub fn add_listing(page: &mut Page, scene: &Scene<'_>, bounds: &Cert, has_cert: 
                 before = Some(bound);
             }
         }
-        add_remarks(page, scene, number, has_cert);
-        add_warnings(page, scene, bounds, number as u8);
+        add_observations(page, scene, bounds, number as u8, has_cert);
     }
-    add_task_remarks(page, scene, has_cert);
+    let remarks = task_remarks(page.alloc(), scene, has_cert);
+    for remark in &page.gathered(remarks) {
+        add_remark(page, "", remark);
+    }
 }

@@ -1,32 +1,77 @@
-//! How remarks are written.
+//! How remarks are told.
 
-use crate::folding::folded;
+use crate::beyond::{beyond_at_all, points_beyond};
+use crate::observations::{Observation, add_points};
 use crate::scenes::Scene;
-use remarks::{Remark, Remarked, TaskRemark, remarks_on, remarks_on_task};
+use crate::topics::Topic;
+use remarks::{Remark, Remarked, TaskRemark, bounds_on, remarks_on, remarks_on_task};
+use rights::Rights;
+use rights::limits::MAX_DESCRIPTORS;
+use std::alloc::{AllocError, Global};
+use task::NamedProgram;
 use texts::{Page, say};
 
-/// Adds points as ranges: `3, 5 to 9`.
-fn add_points(page: &mut Page, points: &[usize]) {
-    let mut separator = "";
-    let mut rest = points;
-    for _ in 0..points.len() {
-        let Some((first, behind)) = rest.split_first() else {
-            break;
-        };
-        let mut last = *first;
-        rest = behind;
-        for point in behind {
-            if last.checked_add(1) != Some(*point) {
-                break;
-            }
-            last = *point;
-            rest = rest.get(1..).unwrap_or(&[]);
+/// What a remark is about.
+fn topic_of(remark: &Remark) -> Topic {
+    match remark {
+        Remark::NeverEnters => Topic::NeverEnters,
+        Remark::Untrusted => Topic::Untrusted,
+        Remark::Unreached { .. } => Topic::Unreached,
+        Remark::Unsettled { .. } => Topic::ModeSkipped,
+        Remark::Stray { .. } => Topic::InNoGrant,
+        Remark::Idle { .. } => Topic::NeverNamed,
+        Remark::Rights { .. } => Topic::RightsUnused,
+        Remark::Commands { .. } => Topic::CommandsUnused,
+        Remark::BothEnds { .. } => Topic::BothEnds,
+        Remark::NeverOpen { .. } => Topic::NeverOpen,
+    }
+}
+
+/// What joins the points to what is remarked.
+fn joint_of(remark: &Remark) -> &'static str {
+    match remark {
+        Remark::NeverEnters
+        | Remark::Idle { .. }
+        | Remark::BothEnds { .. }
+        | Remark::NeverOpen { .. } => ", at ",
+        Remark::Untrusted
+        | Remark::Unreached { .. }
+        | Remark::Unsettled { .. }
+        | Remark::Stray { .. }
+        | Remark::Rights { .. }
+        | Remark::Commands { .. } => " at ",
+    }
+}
+
+/// Adds what is remarked of a number.
+fn add_of_number(page: &mut Page, remark: &Remark) {
+    match remark {
+        Remark::Stray { number } => {
+            say!(page; "descriptor ", *number, " may hold what lies in no grant");
+            say!(page; ", and the report has no line of it, in the mode")
         }
-        say!(page; separator, *first);
-        separator = ", ";
-        if *first < last {
-            say!(page; " to ", last);
+        Remark::Idle { number } => {
+            say!(page; "descriptor ", *number, " is held in the mode and never named from there on");
+            say!(page; ", so it can be closed")
         }
+        Remark::Rights { number, most } => {
+            say!(page; "descriptor ", *number, " could be limited to ", *most);
+            say!(page; ", since no call from there on can use its other rights, in the mode")
+        }
+        Remark::Commands { number, most } => {
+            say!(page; "descriptor ", *number, " could be limited to the commands ", *most);
+            say!(page; ", since no call from there on can use its others, in the mode")
+        }
+        Remark::BothEnds { number, other } => {
+            say!(page; "one process holds both ends of a pair, descriptors ", *number, " and ", *other, ", from there on")
+        }
+        Remark::NeverOpen { number } => {
+            say!(page; "descriptor ", *number, " is never open where the instruction names it")
+        }
+        Remark::NeverEnters
+        | Remark::Untrusted
+        | Remark::Unreached { .. }
+        | Remark::Unsettled { .. } => {}
     }
 }
 
@@ -34,7 +79,7 @@ fn add_points(page: &mut Page, points: &[usize]) {
 fn add_text(page: &mut Page, name: &[u8], remark: &Remark) {
     match remark {
         Remark::NeverEnters =>
-            say!(page; name, " never enters the mode, and a yes does not bound what it does to the tree,"),
+            say!(page; name, " never enters the mode, and a yes does not bound what it does to the tree"),
         Remark::Untrusted => {
             say!(page; "in the mode ", name, " may do anything with what its authority has");
             say!(page; ", and its points bound it outside the mode alone")
@@ -46,58 +91,101 @@ fn add_text(page: &mut Page, name: &[u8], remark: &Remark) {
             outside_alone: true,
         } => say!(page; "nothing arrives outside the mode"),
         Remark::Unsettled { .. } => say!(page; "a process may be in the mode or outside it"),
-        Remark::Stray { number } => {
-            say!(page; "descriptor ", *number, " may hold what lies in no grant");
-            say!(page; ", and the report has no line of it, in the mode")
-        }
-        Remark::Idle { number } => {
-            say!(page; "descriptor ", *number, " is held in the mode and never named from there on");
-            say!(page; ", so it can be closed,")
-        }
-        Remark::Rights { number, most } => {
-            say!(page; "descriptor ", *number, " could be limited to ", *most);
-            say!(page; ", since no call from there on can use its other rights, in the mode")
-        }
-        Remark::Commands { number, most } => {
-            say!(page; "descriptor ", *number, " could be limited to the commands ", *most);
-            say!(page; ", since no call from there on can use its others, in the mode")
-        }
-        Remark::BothEnds { number, other } => {
-            say!(page; "one process holds both ends of a pair, descriptors ", *number, " and ", *other, ", from there on,")
-        }
-        Remark::NeverOpen { number } => {
-            say!(page; "descriptor ", *number, " is never open where the instruction names it,")
-        }
+        Remark::Stray { .. }
+        | Remark::Idle { .. }
+        | Remark::Rights { .. }
+        | Remark::Commands { .. }
+        | Remark::BothEnds { .. }
+        | Remark::NeverOpen { .. } => add_of_number(page, remark),
     }
 }
 
-/// Adds a remark with its points.
-fn add_remark(page: &mut Page, name: &[u8], remarked: &Remarked) {
-    let line = &mut Page::new(page.alloc());
-    say!(line; "  remark: ");
-    add_text(line, name, &remarked.remark);
-    if !matches!(remarked.remark, Remark::Untrusted) {
-        say!(line; " at ");
-        add_points(line, &remarked.points);
-    }
-    if let Remark::Unsettled { from } = &remarked.remark {
+/// Adds from where the entering of the mode is skipped.
+fn add_skipping(page: &mut Page, remark: &Remark) {
+    if let Remark::Unsettled { from } = remark {
         if !from.is_empty() {
-            say!(line; ": cap_enter is skipped from ");
-            add_points(line, from);
+            say!(page; ": cap_enter is skipped from ");
+            add_points(page, from);
         }
     }
-    let lines = folded(line, 0);
-    say!(page; &lines, "\n");
 }
 
-/// Adds the remarks on a program.
-pub(crate) fn add_remarks(page: &mut Page, scene: &Scene<'_>, program: usize, has_cert: bool) {
+/// A remark in words. That a program is untrusted is said of it as a whole.
+fn told(alloc: Global, name: &[u8], remarked: Remarked) -> Observation {
+    let Remarked { remark, points } = remarked;
+    let mut words = Page::new(alloc);
+    add_text(&mut words, name, &remark);
+    let mut more = Page::new(alloc);
+    add_skipping(&mut more, &remark);
+    let is_of_all = matches!(remark, Remark::Untrusted);
+    Observation {
+        topic: topic_of(&remark),
+        words,
+        points: if is_of_all { Vec::new(alloc) } else { points },
+        joint: joint_of(&remark),
+        more,
+    }
+}
+
+/// That a number has rights beyond what its grant lists, at some points in the mode.
+fn told_beyond(alloc: Global, number: u32, rights: Rights, points: Vec<usize>) -> Observation {
+    let mut words = Page::new(alloc);
+    say!(&mut words; "descriptor ", number, " has rights beyond what its grant lists, ", rights, ", in the mode");
+    Observation {
+        topic: Topic::BeyondPolicy,
+        words,
+        points,
+        joint: " at ",
+        more: Page::new(alloc),
+    }
+}
+
+/// Adds which numbers of a program have rights beyond the policy.
+fn add_beyond(
+    alloc: Global,
+    list: &mut Vec<Observation>,
+    scene: &Scene<'_>,
+    named: &NamedProgram,
+) -> Result<(), AllocError> {
+    let grants = scene.task.grants();
+    let code = named.program.code();
+    let bounds = bounds_on(alloc, scene.cert, named)?;
+    for number in 0..MAX_DESCRIPTORS as u32 {
+        let points = points_beyond(alloc, grants, code, &bounds, number)?;
+        if !points.is_empty() {
+            let rights = beyond_at_all(grants, code, &bounds, number, &points);
+            list.push(told_beyond(alloc, number, rights, points))?;
+        }
+    }
+    Ok(())
+}
+
+/// The remarks on a program of a task, by its number: with the bounds of the certificate, if there is one.
+pub fn program_remarks(
+    alloc: Global,
+    scene: &Scene<'_>,
+    program: usize,
+    has_cert: bool,
+) -> Result<Vec<Observation>, AllocError> {
+    let mut list = Vec::new(alloc);
     let Some(named) = scene.task.programs().get(program) else {
-        return;
+        return Ok(list);
     };
-    let remarks = remarks_on(page.alloc(), scene.task, scene.cert, program, has_cert);
-    for remarked in &page.gathered(remarks) {
-        add_remark(page, named.name.as_bytes(), remarked);
+    for remarked in remarks_on(alloc, scene.task, scene.cert, program, has_cert)? {
+        list.push(told(alloc, named.name.as_bytes(), remarked))?;
+    }
+    if has_cert {
+        add_beyond(alloc, &mut list, scene, named)?;
+    }
+    Ok(list)
+}
+
+/// What a remark on a task is about.
+fn topic_of_task_remark(remark: TaskRemark<'_>) -> Topic {
+    match remark {
+        TaskRemark::Alone { .. } => Topic::LoneEnd,
+        TaskRemark::Boundless { .. } => Topic::WholeTree,
+        TaskRemark::Unused { .. } => Topic::OperationUnused,
     }
 }
 
@@ -118,19 +206,23 @@ fn add_task_text(page: &mut Page, remark: TaskRemark<'_>) {
     }
 }
 
-/// Adds a remark on the task.
-fn add_task_remark(page: &mut Page, remark: TaskRemark<'_>) {
-    let line = &mut Page::new(page.alloc());
-    say!(line; "remark: ");
-    add_task_text(line, remark);
-    let lines = folded(line, 0);
-    say!(page; &lines, "\n");
-}
-
-/// Adds the remarks on the task as a whole.
-pub(crate) fn add_task_remarks(page: &mut Page, scene: &Scene<'_>, has_cert: bool) {
-    let remarks = remarks_on_task(page.alloc(), scene.task, scene.cert, has_cert);
-    for remark in &page.gathered(remarks) {
-        add_task_remark(page, *remark);
+/// The remarks on a task as a whole: with the bounds of the certificate, if there is one.
+pub fn task_remarks(
+    alloc: Global,
+    scene: &Scene<'_>,
+    has_cert: bool,
+) -> Result<Vec<Observation>, AllocError> {
+    let mut list = Vec::new(alloc);
+    for remark in remarks_on_task(alloc, scene.task, scene.cert, has_cert)? {
+        let mut words = Page::new(alloc);
+        add_task_text(&mut words, remark);
+        list.push(Observation {
+            topic: topic_of_task_remark(remark),
+            words,
+            points: Vec::new(alloc),
+            joint: "",
+            more: Page::new(alloc),
+        })?;
     }
+    Ok(list)
 }

@@ -68,7 +68,7 @@ impl<'a> Scene<'a> {
     }
 
     /// The instruction of a point as it is written, and its line in the file.
-    pub(crate) fn written(&self, program: u8, point: u8) -> Written<'a> {
+    pub fn written(&self, program: u8, point: u8) -> Written<'a> {
         match self.texts.get(usize::from(program)) {
             Some(text) => text.written_at(self.file, usize::from(point)),
             None => Written { text: &[], line: 0 },

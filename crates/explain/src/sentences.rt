@@ -18,8 +18,8 @@ use transfer::Site;
 /// How many arrivals of one rule are told.
 const MOST_TOLD: u32 = 3;
 
-/// What a rule asks.
-fn general(rule: Rule) -> &'static str {
+/// What a rule asks, in a sentence.
+pub fn rule_words(rule: Rule) -> &'static str {
     match rule {
         Rule::StartsWithin => "the bound of point 0 is too narrow for how a process starts",
         Rule::SuccessesWithin => "a success leads to a point whose bound is too narrow for it",
@@ -169,18 +169,23 @@ fn add_detail(page: &mut Page, scene: &Scene<'_>, found: BrokenRule) {
     }
 }
 
-/// What a rule that is broken at a point asks, and what it compares there, as it stands behind the rule's number in lines of their own.
-pub(crate) fn sentence(alloc: Global, scene: &Scene<'_>, found: BrokenRule) -> Page {
+/// What a rule that is broken at a point asks, and what it compares there, in one line.
+pub fn finding_words(alloc: Global, scene: &Scene<'_>, found: BrokenRule) -> Page {
     let mut detail = Page::new(alloc);
     add_detail(&mut detail, scene, found);
     let mut sentence = Page::new(alloc);
-    say!(&mut sentence; general(found.rule));
+    say!(&mut sentence; rule_words(found.rule));
     if let Some(compared) = detail.as_bytes().strip_prefix(b"; ".as_slice()) {
         say!(&mut sentence; ": ", compared);
     }
     if detail.finish().is_err() {
         sentence.fail();
     }
+    sentence
+}
+
+/// The same as it stands behind the rule's number, in lines of their own.
+pub(crate) fn sentence(alloc: Global, scene: &Scene<'_>, found: BrokenRule) -> Page {
     let column = if found.rule.number() < 10 { 5 } else { 6 };
-    folded(&sentence, column)
+    folded(&finding_words(alloc, scene, found), column)
 }

@@ -1,12 +1,14 @@
-//! How warnings are written: where FreeBSD does otherwise, at a line, and what to write.
+//! How warnings are told: where FreeBSD does otherwise, at a point, and what to write.
 
-use crate::scenes::{Place, Scene};
+use crate::observations::Observation;
+use crate::topics::Topic;
 use certificate::Cert;
 use remarks::{
     Difference, Warnings, directories_at_start, more_at_start, prying_ceilings, warnings_on,
     widest_ceilings,
 };
-use task::Start;
+use std::alloc::{AllocError, Global};
+use task::{Start, Task};
 use texts::{Name, Page, say};
 
 /// What is warned of.
@@ -24,10 +26,10 @@ enum Matter {
 
 /// What it is warned of.
 #[derive(Clone, Copy)]
-enum Subject<'a> {
+enum Subject {
     Call,
     Descriptor(u32),
-    Ceiling(&'a Name),
+    Ceiling(Name),
 }
 
 /// What FreeBSD does there, what to write, and the part of docs/FREEBSD.md that says more.
@@ -117,7 +119,7 @@ fn words_of(matter: Matter) -> Words {
 }
 
 /// Adds what it is warned of.
-fn add_subject(page: &mut Page, subject: Subject<'_>) {
+fn add_subject(page: &mut Page, subject: Subject) {
     match subject {
         Subject::Call => {}
         Subject::Descriptor(number) => say!(page; "descriptor ", number, " "),
@@ -125,92 +127,101 @@ fn add_subject(page: &mut Page, subject: Subject<'_>) {
     }
 }
 
-/// Adds a warning.
-fn warn(page: &mut Page, place: Place<'_>, subject: Subject<'_>, matter: Matter) {
-    let words = words_of(matter);
-    say!(page; "  FreeBSD: ", place, ": ");
-    add_subject(page, subject);
-    say!(page; words.what, "; write ", words.write, " (FREEBSD.md#", words.part, ")\n")
+/// The warnings on a program, as they are gathered.
+#[derive(Drop)]
+struct Warned {
+    alloc: Global,
+    list: Vec<Observation>,
 }
 
-/// Adds what is warned of at a point.
-fn add_point(page: &mut Page, place: Place<'_>, warnings: &Warnings) {
-    for difference in &warnings.differences {
-        warn(page, place, Subject::Call, Matter::Differs(*difference));
+impl Warned {
+    /// Adds a warning at a point.
+    fn add(&mut self, point: usize, subject: Subject, matter: Matter) -> Result<(), AllocError> {
+        let said = words_of(matter);
+        let mut words = Page::new(self.alloc);
+        add_subject(&mut words, subject);
+        say!(&mut words; said.what, "; write ", said.write);
+        let points = vec![in self.alloc; point]?;
+        self.list.push(Observation {
+            topic: Topic::FreeBsd(said.part),
+            words,
+            points,
+            joint: " at ",
+            more: Page::new(self.alloc),
+        })?;
+        Ok(())
     }
-    if warnings.failed_close {
-        warn(page, place, Subject::Call, Matter::FailedClose);
-    }
-    if warnings.no_sandbox {
-        warn(page, place, Subject::Call, Matter::NoSandbox);
-    }
-    for number in &warnings.numbers {
-        warn(page, place, Subject::Descriptor(*number), Matter::TakesMore);
-    }
-    for number in &warnings.directories {
-        warn(page, place, Subject::Descriptor(*number), Matter::Directory);
-    }
-}
 
-/// Adds the ceilings of an untrusted program that have all rights, and those that let names be looked up where the grant doesn't list
-/// looking.
-fn add_ceilings(page: &mut Page, scene: &Scene<'_>, bounds: &Cert, place: Place<'_>, name: &Name) {
-    let widest = widest_ceilings(page.alloc(), bounds, name);
-    for ceiling in &page.gathered(widest) {
-        warn(
-            page,
-            place,
-            Subject::Ceiling(ceiling.grant()),
-            Matter::WidestCeiling,
-        );
-    }
-    let prying = prying_ceilings(page.alloc(), scene.task.grants(), bounds, name);
-    for ceiling in &page.gathered(prying) {
-        warn(
-            page,
-            place,
-            Subject::Ceiling(ceiling.grant()),
-            Matter::PryingCeiling,
-        );
-    }
-}
-
-/// Adds what the processes of an untrusted program that start in the mode have more of, and their directories that can be listed.
-fn add_start(page: &mut Page, scene: &Scene<'_>, place: Place<'_>, start: &Start) {
-    let more = more_at_start(page.alloc(), start);
-    for first in &page.gathered(more) {
-        let subject = Subject::Descriptor(u32::from(first.number));
-        warn(page, place, subject, Matter::StartsWithMore);
-    }
-    let directories = directories_at_start(page.alloc(), scene.task, start);
-    for first in &page.gathered(directories) {
-        let subject = Subject::Descriptor(u32::from(first.number));
-        warn(page, place, subject, Matter::Directory);
-    }
-}
-
-/// The same of each such process.
-fn add_starts(page: &mut Page, scene: &Scene<'_>, place: Place<'_>, program: u8) {
-    for start in scene.task.starts() {
-        if start.mode && start.program == program {
-            add_start(page, scene, place, start);
+    /// Adds what is warned of at a point.
+    fn add_point(&mut self, point: usize, warnings: &Warnings) -> Result<(), AllocError> {
+        for difference in &warnings.differences {
+            self.add(point, Subject::Call, Matter::Differs(*difference))?;
         }
+        if warnings.failed_close {
+            self.add(point, Subject::Call, Matter::FailedClose)?;
+        }
+        if warnings.no_sandbox {
+            self.add(point, Subject::Call, Matter::NoSandbox)?;
+        }
+        for number in &warnings.numbers {
+            self.add(point, Subject::Descriptor(*number), Matter::TakesMore)?;
+        }
+        for number in &warnings.directories {
+            self.add(point, Subject::Descriptor(*number), Matter::Directory)?;
+        }
+        Ok(())
+    }
+
+    /// Adds the ceilings of an untrusted program that have all rights, and those that let names be looked up where the grant doesn't list
+    /// looking.
+    fn add_ceilings(&mut self, task: &Task, bounds: &Cert, name: &Name) -> Result<(), AllocError> {
+        for ceiling in &widest_ceilings(self.alloc, bounds, name)? {
+            self.add(0, Subject::Ceiling(*ceiling.grant()), Matter::WidestCeiling)?;
+        }
+        for ceiling in &prying_ceilings(self.alloc, task.grants(), bounds, name)? {
+            self.add(0, Subject::Ceiling(*ceiling.grant()), Matter::PryingCeiling)?;
+        }
+        Ok(())
+    }
+
+    /// Adds what a process of an untrusted program that starts in the mode has more of, and its directories that can be listed.
+    fn add_start(&mut self, task: &Task, start: &Start) -> Result<(), AllocError> {
+        for first in &more_at_start(self.alloc, start)? {
+            let subject = Subject::Descriptor(u32::from(first.number));
+            self.add(0, subject, Matter::StartsWithMore)?;
+        }
+        for first in &directories_at_start(self.alloc, task, start)? {
+            let subject = Subject::Descriptor(u32::from(first.number));
+            self.add(0, subject, Matter::Directory)?;
+        }
+        Ok(())
     }
 }
 
-/// Adds the warnings on a program, by the bounds of a certificate.
-pub(crate) fn add_warnings(page: &mut Page, scene: &Scene<'_>, bounds: &Cert, program: u8) {
-    let warnings = warnings_on(page.alloc(), scene.task, bounds, usize::from(program));
-    for (point, warnings) in page.gathered(warnings).iter().enumerate() {
-        if let Ok(point) = u8::try_from(point) {
-            add_point(page, scene.place(program, point), warnings);
-        }
+/// The warnings on a program of a task, by its number and by the bounds of a certificate in which all are written.
+pub fn program_warnings(
+    alloc: Global,
+    task: &Task,
+    bounds: &Cert,
+    program: usize,
+) -> Result<Vec<Observation>, AllocError> {
+    let list = Vec::new(alloc);
+    let mut warned = Warned { alloc, list };
+    for (point, warnings) in warnings_on(alloc, task, bounds, program)?
+        .iter()
+        .enumerate()
+    {
+        warned.add_point(point, warnings)?;
     }
-    if let Some(named) = scene.task.programs().get(usize::from(program)) {
-        let place = scene.place(program, 0);
-        add_ceilings(page, scene, bounds, place, &named.name);
+    if let Some(named) = task.programs().get(program) {
+        warned.add_ceilings(task, bounds, &named.name)?;
         if named.untrusted {
-            add_starts(page, scene, place, program);
+            for start in task.starts() {
+                if start.mode && usize::from(start.program) == program {
+                    warned.add_start(task, start)?;
+                }
+            }
         }
     }
+    Ok(warned.list)
 }

@@ -26,10 +26,11 @@ pub mod wires;
 pub mod wiring;
 
 pub use html::Html;
+pub use matrices::{Cell, Mark, Matrix, MatrixGroup, MatrixRow, RIGHTS};
 pub use pictures::{Half, HalfKind, Note, Panel, Picture, Program, Row, Target};
 pub use sentences::{Piece, Place, Tone};
 pub use sheets::{
-    Change, Column, Header, Item, Lane, Line, Listing, Message, Mode, OpenState, PointGroup,
-    Remark, RemarkKind, RuleText, Run, Sheet, Step, Verdict,
+    Change, Column, Header, Item, Lane, Line, Listing, Message, Mode, OpenKind, OpenState,
+    PointGroup, Remark, RemarkKind, RuleText, Run, Sheet, Step, Verdict,
 };
 pub use whole::add_sheet;

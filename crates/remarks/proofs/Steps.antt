@@ -1,5 +1,5 @@
 -- What leads to a flagged point in some steps: a step taken first, and none that is left.
-use Rattle.std.proofs.Common.{◌≡◌, ◌+◌, ◌-◌, ◌<◌, ◌≤◌, ℕ, zero, suc, List, Bool, ap, arith}
+use Rattle.std.proofs.Common.{◌≡◌, ◌+◌, ◌-◌, ◌<◌, ◌≤◌, ℕ, zero, suc, List, Bool, ap, arith, refl, ◌∙◌}
 use Rattle.instruction_set.specs.Programs.{Instruction}
 use Rattle.remarks.specs.Ways.{or_before, within_steps}
 
@@ -15,3 +15,9 @@ unfolding within_steps
 none_left code steps taken flags all =
     let left : steps - taken ≡ zero = omega arith in
     ap (λ n. within_steps n code flags) left
+
+-- what a step doesn't change, no further ones do
+pub settled : (code : List Instruction) (steps : ℕ) (flags : List Bool) → or_before code flags ≡ flags → within_steps steps code flags ≡ flags
+unfolding within_steps
+settled code zero flags same = refl
+settled code (suc steps) flags same = ap (within_steps steps code) same ∙ settled code steps flags same

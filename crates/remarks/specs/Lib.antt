@@ -3,3 +3,4 @@ pub mod Remarks
 pub mod RemarkViews
 pub mod TaskRemarks
 pub mod Warnings
+pub mod Uses

@@ -10,6 +10,8 @@ use Rattle.remarks.specs.declared.warnings.Difference.TheVariants as code
 use Rattle.remarks.specs.declared.looks.Looks.{Looks}
 use Rattle.remarks.specs.declared.looks.Look.{Look as LookCode}
 use Rattle.remarks.specs.declared.warnings.Warnings.{Warnings}
+use Rattle.remarks.specs.declared.reaching.Uses.{Uses as UsesCode}
+use Rattle.remarks.specs.Uses.{Uses}
 
 abbrev pub bounds_of : List (Option BoundCode) → List (Option Bound)
 bounds_of bounds = map (option_map bound_of) bounds
@@ -38,3 +40,6 @@ warned_of w = record {
   numbers = w.numbers.items;
   directories = w.directories.items;
 }
+
+abbrev pub uses_seen : UsesCode → Uses
+uses_seen u = record { rights = u.rights.0; commands = u.commands.0 }

@@ -6,14 +6,15 @@ mod bounded;
 pub mod directories;
 mod looks;
 pub mod policies;
-mod reaching;
+pub mod reaching;
 pub mod remarks;
 pub mod warnings;
 mod ways;
 
 pub use directories::directories_at_start;
 pub use policies::{TaskRemark, remarks_on_task};
-pub use remarks::{Remark, Remarked, remarks_on};
+pub use reaching::{Uses, uses_of};
+pub use remarks::{Remark, Remarked, bounds_on, remarks_on};
 pub use warnings::{
     Difference, Warnings, more_at_start, prying_ceilings, warnings_on, widest_ceilings,
 };

@@ -79,6 +79,17 @@ pub(crate) fn with_bounds<'a>(
     })
 }
 
+/// The bounds that a certificate, in which all are written, gives the points of a program, if they have any.
+pub fn bounds_on(
+    alloc: Global,
+    cert: &Cert,
+    named: &NamedProgram,
+) -> Result<Vec<Option<Bound>>, AllocError>
+    ensures { IfOk result (λ found. bounds_of found.items ≡ bounds_in cert.now (program_of named.now)) }
+{
+    bounds_of(alloc, cert, named.name.as_bytes(), named.program.code())
+}
+
 /// The bounds that a certificate gives the points of the program of a name, if they have any.
 fn bounds_of(
     alloc: Global,

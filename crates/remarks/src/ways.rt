@@ -1,6 +1,6 @@
 //! From which points of a program some come, by its text alone.
 
-ghost use Rattle.std.specs.Prelude.{◌≡◌, ◌||◌, IfOk, length};
+ghost use Rattle.std.specs.Prelude.{◌≡◌, ◌||◌, IfOk, length, true};
 ghost use Rattle.std.specs.List.{list_any};
 ghost use Rattle.remarks.specs.Ways.{from_which, is_flagged, or_before};
 ghost use Rattle.instruction_set.specs.Successors.{successors_at};
@@ -51,7 +51,18 @@ fn or_before(alloc: Global, code: &[Instruction], flags: &[bool]) -> Result<Vec<
         .collect(alloc)
 }
 
-/// The points from which a flagged one comes, themselves or after some steps.
+/// Whether the same points are flagged.
+fn are_same(flags: &[bool], others: &[bool]) -> bool
+    ensures { result ≡ true → flags.now ≡ others.now }
+{
+    match (flags, others) {
+        ([], []) => true,
+        ([flag, rest @ ..], [other, behind @ ..]) => *flag == *other && are_same(rest, behind),
+        _ => false,
+    }
+}
+
+/// The points from which a flagged one comes, themselves or after some steps. Once a step adds none, no further one does.
 pub(crate) fn from_which(
     alloc: Global,
     code: &[Instruction],
@@ -61,7 +72,11 @@ pub(crate) fn from_which(
 {
     let mut found = flags;
     for steps in 0..count(code) {
-        found = or_before(alloc, code, &found)?;
+        let more = or_before(alloc, code, &found)?;
+        if are_same(&more, &found) {
+            return Ok(found);
+        }
+        found = more;
     }
     Ok(found)
 }

@@ -13,8 +13,10 @@ mod near;
 mod path_faults;
 mod places;
 mod program_texts;
+mod source_lines;
 mod table_faults;
 mod tokens;
 
 pub use faults::{TextFault, TextFaults, add_faults, faults_of};
 pub use program_texts::{ProgramText, Written, texts_of_file};
+pub use source_lines::SourceLine;

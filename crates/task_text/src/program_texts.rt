@@ -2,7 +2,7 @@
 
 ghost use Rattle.std.specs.Prelude.{◌≡◌, IfOk, length};
 ghost use Rattle.instruction_set.specs.Views.{code_of};
-ghost use Rattle.task_text.specs.Instructions.{AreLinesOf, line_there, text_there};
+ghost use Rattle.task_text.specs.Instructions.{AreLinesOf, line_there, offset_of, text_there};
 ghost use Rattle.task_text.specs.ProgramViews.{AreTextsOf, codes_in, span_at, texts_at};
 
 use crate::decoded::{Decoded, decode};
@@ -30,6 +30,27 @@ pub struct Written<'a> {
 }
 
 impl ProgramText {
+    /// The bytes of the text.
+    pub(crate) fn bytes(&self) -> &[u8]
+        ensures { result.now ≡ self.now.code.bytes.items }
+    {
+        &self.code.bytes
+    }
+
+    /// The offset in the file that a byte of the text comes from; behind the last one, that behind the text.
+    pub(crate) fn offset(&self, at: usize) -> usize
+        ensures { result ≡ offset_of self.now.code.offsets.items self.now.code.end at }
+    {
+        self.code.offset(at)
+    }
+
+    /// Where in the text the instructions of the points stand.
+    pub(crate) fn instructions(&self) -> &[Span]
+        ensures { result.now ≡ self.now.instructions.items }
+    {
+        &self.instructions
+    }
+
     /// The instruction of a point, counted from 0, and its line in the file, counted from 1; nothing and 0 where that isn't known.
     pub fn written_at(&self, file: &[u8], point: usize) -> Written<'_>
         ensures text { result.text.now ≡ text_there self.now.code.bytes.items (span_at self.now point) }

@@ -1,0 +1,169 @@
+//! What a number may have in the mode beyond the policy.
+
+ghost use Rattle.std.specs.Prelude.{◌≡◌, All, IfOk, length, map, option_map, true};
+ghost use Rattle.certificate.specs.Views.{bound_of, held_of};
+ghost use Rattle.instruction_set.specs.Views.{code_of};
+ghost use Rattle.remarks.specs.RemarkViews.{bounds_of};
+ghost use Rattle.remarks.specs.Remarks.{bound_here};
+ghost use Rattle.certificate.specs.Lines.{is_ceiling};
+ghost use Rattle.explain.specs.Beyond.{beyond_at, beyond_at_all, held_in_mode, is_unlisted, points_beyond, rights_beyond, rights_of_operations, unlisted_among};
+ghost use Rattle.task.specs.Views.{grants_of};
+ghost use Rattle.texts.specs.Views.{name_of};
+
+use certificate::{Bound, Ceiling, Held, Target};
+use checker::allowances::keeps_ceiling;
+use instruction_set::Instruction;
+use rights::Rights;
+use std::alloc::{AllocError, Global};
+use task::Grant;
+use texts::Name;
+use transfer::may_be_on;
+
+/// The rights that are for an operation of the policy.
+const RIGHTS_OF_OPERATIONS: [Rights; 10] = [
+    Rights::READ,
+    Rights::WRITE,
+    Rights::FTRUNCATE,
+    Rights::FSTAT,
+    Rights::CREATE,
+    Rights::FSTATAT,
+    Rights::MKDIRAT,
+    Rights::UNLINKAT,
+    Rights::RENAMEAT_SOURCE,
+    Rights::RENAMEAT_TARGET,
+];
+
+/// Whether a right alone is for what a grant doesn't list.
+fn is_unlisted(grants: &[Grant], grant: &Name, right: Rights) -> bool
+    requires { is_ceiling right.0 ≡ true }
+    ensures { result ≡ is_unlisted (grants_of grants.now) (name_of grant.now) right.0 }
+{
+    !keeps_ceiling(grants, &Ceiling::new(*grant, right))
+}
+
+/// Of some rights those that are held and for what the grant doesn't list.
+fn unlisted_among(grants: &[Grant], grant: &Name, held: Rights, rights: &[Rights]) -> Rights
+    requires { All (λ r. is_ceiling r.0 ≡ true) rights.now }
+    ensures { result.0 ≡ unlisted_among (grants_of grants.now) (name_of grant.now) held.0 (map (λ r. r.0) rights.now) }
+{
+    match rights {
+        [] => Rights::empty(),
+        [first, rest @ ..] => {
+            let others = unlisted_among(grants, grant, held, rest);
+            if held.contains(*first) && is_unlisted(grants, grant, *first) {
+                first.union(others)
+            } else {
+                others
+            }
+        }
+    }
+}
+
+/// Of some rights in a grant those that are for what it doesn't list. (rights(4); own)
+pub fn unlisted_rights(grants: &[Grant], grant: &Name, held: Rights) -> Rights
+    ensures { result.0 ≡ unlisted_among (grants_of grants.now) (name_of grant.now) held.0 rights_of_operations }
+{
+    unlisted_among(grants, grant, held, &RIGHTS_OF_OPERATIONS)
+}
+
+/// The rights that a number may have beyond what its grant lists. Of what lies in no grant, or is an end of a pair, none are. (rights(4); own)
+pub fn rights_beyond(grants: &[Grant], held: &Held) -> Rights
+    ensures { result.0 ≡ rights_beyond (grants_of grants.now) (held_of held.now) }
+{
+    match held.target() {
+        Target::InGrant(grant) => {
+            unlisted_among(
+                grants,
+                &grant,
+                held.rights().greatest(),
+                &RIGHTS_OF_OPERATIONS,
+            )
+        }
+        Target::AnyNode | Target::Socket(..) | Target::Unknown => Rights::empty(),
+    }
+}
+
+/// The bound of a point, if it has one.
+fn bound_here(bounds: &[Option<Bound>], point: usize) -> Option<&Bound>
+    ensures { option_map (λ b. bound_of b.now) result ≡ bound_here (bounds_of bounds.now) point }
+{
+    match bounds.get(point) {
+        None | Some(None) => None,
+        Some(Some(bound)) => Some(bound),
+    }
+}
+
+/// What a number may hold at a point in the mode, by the bounds of a program's points. A point that only ends doesn't count.
+pub fn held_in_mode(
+    code: &[Instruction],
+    bounds: &[Option<Bound>],
+    number: u32,
+    point: usize,
+) -> Option<Held>
+    ensures { option_map held_of result ≡ held_in_mode (code_of code.now) (bounds_of bounds.now) number point }
+{
+    let bound = bound_here(bounds, point)?;
+    let instruction = code.get(point)?;
+    if may_be_on(bound.mode()) && !matches!(instruction, Instruction::Halt) {
+        bound.slot(number).held()
+    } else {
+        None
+    }
+}
+
+/// The rights that a number may have beyond its grant at a point in the mode.
+fn beyond_at(
+    grants: &[Grant],
+    code: &[Instruction],
+    bounds: &[Option<Bound>],
+    number: u32,
+    point: usize,
+) -> Rights
+    ensures { result.0 ≡ beyond_at (grants_of grants.now) (code_of code.now) (bounds_of bounds.now) number point }
+{
+    match held_in_mode(code, bounds, number, point) {
+        None => Rights::empty(),
+        Some(held) => rights_beyond(grants, &held),
+    }
+}
+
+/// How many points a program has.
+fn count(code: &[Instruction]) -> usize
+    ensures { result ≡ length (code_of code.now) }
+{
+    code.len()
+}
+
+/// The points in the mode at which a number may have rights beyond its grant.
+pub fn points_beyond(
+    alloc: Global,
+    grants: &[Grant],
+    code: &[Instruction],
+    bounds: &[Option<Bound>],
+    number: u32,
+) -> Result<Vec<usize>, AllocError>
+    ensures { IfOk result (λ found. found.items ≡ points_beyond (grants_of grants.now) (code_of code.now) (bounds_of bounds.now) number) }
+{
+    (0..count(code))
+        .filter(|point| beyond_at(grants, code, bounds, number, *point) != Rights::empty())
+        .collect(alloc)
+}
+
+/// The rights that a number may have beyond its grant at some points.
+pub fn beyond_at_all(
+    grants: &[Grant],
+    code: &[Instruction],
+    bounds: &[Option<Bound>],
+    number: u32,
+    points: &[usize],
+) -> Rights
+    ensures { result.0 ≡ beyond_at_all (grants_of grants.now) (code_of code.now) (bounds_of bounds.now) number points.now }
+{
+    match points {
+        [] => Rights::empty(),
+        [first, rest @ ..] => {
+            let others = beyond_at_all(grants, code, bounds, number, rest);
+            beyond_at(grants, code, bounds, number, *first).union(others)
+        }
+    }
+}

@@ -1,0 +1,72 @@
+//! What is observed on a program or a task, as values in words: remarks, and warnings where FreeBSD does otherwise.
+
+use crate::folding::folded;
+use crate::scenes::Scene;
+use crate::topics::Topic;
+use texts::{Page, say};
+
+/// What is observed.
+#[derive(Drop)]
+pub struct Observation {
+    pub topic: Topic,
+    /// What is said of it, in one line.
+    pub words: Page,
+    /// The points of the program that it is said of; none, where it is of the program or the task as a whole.
+    pub points: Vec<usize>,
+    /// What joins the points to the words.
+    pub joint: &'static str,
+    /// What is said behind the points.
+    pub more: Page,
+}
+
+/// Adds points as ranges: `3, 5 to 9`.
+pub fn add_points(page: &mut Page, points: &[usize]) {
+    let mut separator = "";
+    let mut rest = points;
+    for _ in 0..points.len() {
+        let Some((first, behind)) = rest.split_first() else {
+            break;
+        };
+        let mut last = *first;
+        rest = behind;
+        for point in behind {
+            if last.checked_add(1) != Some(*point) {
+                break;
+            }
+            last = *point;
+            rest = rest.get(1..).unwrap_or(&[]);
+        }
+        say!(page; separator, *first);
+        separator = ", ";
+        if *first < last {
+            say!(page; " to ", last);
+        }
+    }
+}
+
+/// What is said of an observation in one line, with its points.
+pub fn line_of(observation: &Observation) -> Page {
+    let mut line = Page::new(observation.words.alloc());
+    say!(&mut line; &observation.words);
+    if !observation.points.is_empty() {
+        say!(&mut line; observation.joint);
+        add_points(&mut line, &observation.points);
+    }
+    say!(&mut line; &observation.more);
+    line
+}
+
+/// Adds a remark, as it stands in a listing.
+pub(crate) fn add_remark(page: &mut Page, indent: &'static str, observation: &Observation) {
+    let line = &mut Page::new(page.alloc());
+    say!(line; indent, "remark: ", &line_of(observation));
+    let lines = folded(line, 0);
+    say!(page; &lines, "\n");
+}
+
+/// Adds a warning, as it stands in a listing.
+pub(crate) fn add_warning(page: &mut Page, scene: &Scene<'_>, program: u8, warning: &Observation) {
+    let point = warning.points.first().copied().unwrap_or(0);
+    let place = scene.place(program, u8::try_from(point).unwrap_or(u8::MAX));
+    say!(page; "  FreeBSD: ", place, ": ", &warning.words, " (FREEBSD.md#", warning.topic.name(), ")\n")
+}
