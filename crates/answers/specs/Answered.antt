@@ -1,5 +1,5 @@
 -- What is answered to what was asked: what the status says of it, and what is written. (own)
-use Rattle.std.specs.Prelude.{◌≡◌, ◌⊎◌, ◌++◌, ℕ, true, List, [], length, codes, Option, Some, Ok}
+use Rattle.std.specs.Prelude.{◌≡◌, ◌⊎◌, ◌++◌, ℕ, true, List, [], length, codes, Option, None, Some, Ok}
 use Rattle.rights.specs.Output.{Took}
 use Rattle.certificate.specs.Bounds.{Certificate}
 use Rattle.certificate_text.specs.Readings.{certificate_of_text}
@@ -24,7 +24,7 @@ use Rattle.explore.specs.Breaches as explore
 use Rattle.explore.specs.Broken.{Breaks, IsRefuted, Move, own_moves}
 use Rattle.explore.specs.Texts.{WritesRun, schedule_text}
 use Rattle.answers.specs.PlacingWords.{placings_in}
-use Rattle.answers.specs.Questions.{Question, Usage, Listing, Broken, Unfound, Breach, Proposed, Faulty, Calls, Followed, question_in}
+use Rattle.answers.specs.Questions.{Question, Usage, Listing, Broken, Unfound, Breach, Proposed, Page, Log, Faulty, Calls, Followed, question_in}
 use Rattle.explain.specs.TaskTexts.{IsTaskText}
 use Rattle.explain.specs.Telling.{Tells}
 
@@ -40,6 +40,14 @@ pub record SaysBroken (status : ℕ) (task certificate text : List ℕ) : Type 0
   pub is_certificate : certificate_of_text certificate ≡ Ok bounds
   pub says : SaysWhether status (IsAccepted plan bounds)
   pub tells : Tells plan (findings plan (expansion plan bounds)) text
+
+-- the same without what is told
+pub record SaysChecked (status : ℕ) (task certificate : List ℕ) : Type 0 where
+  pub plan : Plan
+  pub is_task : task_of task ≡ Ok plan
+  pub bounds : Certificate
+  pub is_certificate : certificate_of_text certificate ≡ Ok bounds
+  pub says : SaysWhether status (IsAccepted plan bounds)
 
 -- of a task's text, that a certificate of it is accepted, with status 0; and with 1 that its flat one isn't, if it has one
 pub record SaysFound (status : ℕ) (task : List ℕ) : Type 0 where
@@ -69,6 +77,13 @@ pub record SaysOfFiles (files : Files) (task certificate : List ℕ) (status : �
   pub told : List ℕ
   pub says : SaysBroken status text bounds_text told
   pub writes : Took before after told
+
+pub record SaysOfChecked (files : Files) (task certificate : List ℕ) (status : ℕ) : Type 0 where
+  pub text : List ℕ
+  pub is_file : IsFile files task text
+  pub bounds_text : List ℕ
+  pub is_bounds : IsFile files certificate bounds_text
+  pub says : SaysChecked status text bounds_text
 
 -- A certificate is written that is accepted, with status 0, or none, with status 1.
 pub record Offers (plan : Plan) (before after : Option (List ℕ)) : Type 0 where
@@ -163,6 +178,10 @@ Answers files (Broken task certificate) status before after = SaysOfFiles files 
 Answers files (Unfound task) status before after = SaysOfSearch files task status
 Answers files (Breach task states) status before after = SaysOfRuns files task status before after
 Answers files (Proposed task certificate) status before after = SaysOfTask files task status before after
+Answers files (Page task None) status before after = SaysOfSearch files task status
+Answers files (Page task (Some certificate)) status before after = SaysOfChecked files task certificate status
+Answers files (Log task None) status before after = SaysOfSearch files task status ⊎ (status ≡ 1)
+Answers files (Log task (Some certificate)) status before after = SaysOfChecked files task certificate status ⊎ (status ≡ 1)
 Answers files (Faulty task) status before after = SaysOfFile files task status
 Answers files (Calls file) status before after = SaysOfRecord files file status before after
 Answers files (Followed task calls places) status before after = SaysOfFollowing files task calls places status before after

@@ -9,7 +9,7 @@ use Rattle.answers.specs.PlacingWords.{placing_in}
 
 -- what there is to ask; for a listing of a task, with the bounds of a certificate or without; for all rules that a certificate breaks;
 -- for what the search comes to; for a run that breaks the sandbox, among so many states at most; for a certificate, of untrusted programs
--- too, or for one of an older text carried over; for the faults of a task's text; for the calls of a record of strace; for whether recorded calls
+-- too, or for one of an older text carried over; for a page to look at, or a log for code scanning, of a task alone or with a certificate; for the faults of a task's text; for the calls of a record of strace; for whether recorded calls
 -- follow a task, whose places lie where words say
 pub data Question : Type 0 where
   Usage : Question
@@ -18,6 +18,8 @@ pub data Question : Type 0 where
   Unfound : (task : List ℕ) → Question
   Breach : (task : List ℕ) (states : Option ℕ) → Question
   Proposed : (task : List ℕ) (certificate : Option (List ℕ)) → Question
+  Page : (task : List ℕ) (certificate : Option (List ℕ)) → Question
+  Log : (task : List ℕ) (certificate : Option (List ℕ)) → Question
   Faulty : (task : List ℕ) → Question
   Calls : (file : List ℕ) → Question
   Followed : (task calls : List ℕ) (places : List (List ℕ)) → Question
@@ -33,6 +35,8 @@ of_task command task =
     else if bytes_eq command (codes "none") then Some (Unfound task)
     else if bytes_eq command (codes "breach") then Some (Breach task None)
     else if bytes_eq command (codes "propose") then Some (Proposed task None)
+    else if bytes_eq command (codes "page") then Some (Page task None)
+    else if bytes_eq command (codes "sarif") then Some (Log task None)
     else if bytes_eq command (codes "text") then Some (Faulty task)
     else if_so (bytes_eq command (codes "calls")) (Calls task)
 
@@ -49,6 +53,8 @@ of_pair command task certificate =
     else if bytes_eq command (codes "list") then Some (Listing task (Some certificate))
     else if bytes_eq command (codes "breach") then among task (at_most most_states (number_of certificate))
     else if bytes_eq command (codes "propose") then Some (Proposed task (Some certificate))
+    else if bytes_eq command (codes "page") then Some (Page task (Some certificate))
+    else if bytes_eq command (codes "sarif") then Some (Log task (Some certificate))
     else if_so (bytes_eq command (codes "no")) (Broken task certificate)
 
 abbrev pub followed : List ℕ → List ℕ → List (List ℕ) → Option Question
@@ -59,8 +65,8 @@ abbrev pub of_more : List (List ℕ) → Option Question → Option Question
 of_more [] question = question
 of_more (word ∷ words) question = None
 
--- No words, or `--help`; `list TASK`, `none TASK`, `breach TASK`, `propose TASK`, `text TASK`, `calls RECORD`; `list TASK CERT`, `breach TASK STATES`,
--- `propose TASK CERT`, `no TASK CERT`; `follow TASK CALLS` and words REAL=MODEL. No name begins with `-`, and a number of states fits 32 bits.
+-- No words, or `--help`; `list TASK`, `none TASK`, `breach TASK`, `propose TASK`, `page TASK`, `sarif TASK`, `text TASK`, `calls RECORD`; `list TASK CERT`,
+-- `breach TASK STATES`, `propose TASK CERT`, `page TASK CERT`, `sarif TASK CERT`, `no TASK CERT`; `follow TASK CALLS` and words REAL=MODEL. No name begins with `-`, and a number of states fits 32 bits.
 abbrev pub question_in : List (List ℕ) → Option Question
 question_in [] = Some Usage
 question_in (word ∷ []) = if_so (bytes_eq word (codes "--help")) Usage

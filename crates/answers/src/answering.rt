@@ -1,6 +1,6 @@
 //! What is answered to a question, and how.
 
-ghost use Rattle.std.specs.Prelude.{◌≡◌, ◌<◌, ◌-◌, ◌^◌, IfOk, IfSome, IsTrue, Ok, OnErr, OnOk, map, string_bytes, true};
+ghost use Rattle.std.specs.Prelude.{◌≡◌, ◌<◌, ◌-◌, ◌^◌, IfOk, IfSome, IsTrue, Ok, OnErr, OnOk, map, option_map, string_bytes, true};
 ghost use Rattle.checker.specs.Verdicts.{IsAccepted};
 ghost use Rattle.console.specs.Statuses.{is_done_status, is_status};
 ghost use Rattle.task.specs.Plans.{Plan};
@@ -9,13 +9,16 @@ ghost use Rattle.explain.specs.TaskTexts.{IsTaskText};
 ghost use Rattle.answers.specs.Answered.{Answers, AnswersWords, SaysBroken, SaysFound, SaysOffered, SaysWhether};
 ghost use Rattle.answers.specs.Answered.{SaysOfFile, SaysOfFiles, SaysOfFollowing, SaysOfRecord, SaysOfRuns, SaysOfSearch, SaysOfTask};
 ghost use Rattle.answers.specs.QuestionViews.{question_of};
+ghost use Rattle.answers.specs.Questions as asked;
 ghost use Rattle.rights.specs.Output.{Took};
 
 use crate::breaching::answer_breach;
 use crate::following::answer_follow;
+use crate::paging::{answer_checked_page, answer_page};
 use crate::questions::{Question, read_question};
 use crate::recording::answer_calls;
 use crate::refusals::{Refusal, tell_refusal};
+use crate::scanning::{answer_checked_log, answer_log};
 use crate::usage::USAGE;
 use certificate::{Cert, Version};
 use certificate_text::{read_cert, write_cert};
@@ -294,6 +297,45 @@ fn answer_offer<'a, S: Source, W: Out>(
     }
 }
 
+/// Writes the page of a task, with a certificate or without.
+fn answer_paged<'a, S: Source, W: Out, P: Watcher>(
+    alloc: Global,
+    files: &mut S,
+    task: &'a str,
+    cert: Option<&'a str>,
+    out: &mut W,
+    watcher: &mut P,
+) -> Result<u8, Fault<'a>>
+    requires { W.faults out.old < 2 ^ 64 - 1 }
+    ensures says { IfOk result (λ status. Answers (S.files files.old) (asked.Page task.now (option_map (λ name. name.now) cert.entry)) status
+        (W.taken out.old) (W.taken out.new)) }
+    ensures done { IfOk result (λ status. is_done_status status ≡ true) }
+{
+    match cert {
+        None => answer_page(alloc, files, task, out, watcher),
+        Some(cert) => answer_checked_page(alloc, files, task, cert, out),
+    }
+}
+
+/// Writes the log of a task, with a certificate or without.
+fn answer_logged<'a, S: Source, W: Out>(
+    alloc: Global,
+    files: &mut S,
+    task: &'a str,
+    cert: Option<&'a str>,
+    out: &mut W,
+) -> Result<u8, Fault<'a>>
+    requires { W.faults out.old < 2 ^ 64 - 1 }
+    ensures says { IfOk result (λ status. Answers (S.files files.old) (asked.Log task.now (option_map (λ name. name.now) cert.entry)) status
+        (W.taken out.old) (W.taken out.new)) }
+    ensures done { IfOk result (λ status. is_done_status status ≡ true) }
+{
+    match cert {
+        None => answer_log(alloc, files, task, out),
+        Some(cert) => answer_checked_log(alloc, files, task, cert, out),
+    }
+}
+
 /// Writes the faults of a task's text.
 fn answer_faults<'a, S: Source, W: Out>(
     alloc: Global,
@@ -369,6 +411,8 @@ fn reply<'a, S: Source, W: Out, V: Out, P: Watcher>(
         Question::Unfound { task } => answer_unfound(alloc, files, task, out),
         Question::Breach { task, states } => answer_run(alloc, files, task, states, out, watcher),
         Question::Proposed { task, cert } => answer_offer(alloc, files, task, cert, out),
+        Question::Page { task, cert } => Ok(answer_paged(alloc, files, task, cert, out, watcher)?),
+        Question::Log { task, cert } => Ok(answer_logged(alloc, files, task, cert, out)?),
         Question::Faulty { task } => answer_faults(alloc, files, task, out),
         Question::Calls { file } => answer_record(alloc, files, file, out, err),
         Question::Followed {

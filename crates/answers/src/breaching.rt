@@ -7,33 +7,37 @@ ghost use Rattle.task_reader.specs.Reading.{task_of};
 ghost use Rattle.answers.specs.Answered.{SaysRefuted};
 
 use crate::attacking::write_attack;
-use checker::all_findings;
+use checker::{BrokenRule, all_findings};
 use console::Fault;
 use console::statuses::{BROKEN, DONE};
 use explore::{Deeds, Explored, Goal, Watcher, explore, write_breach};
 use rights::{Memory, Out, write_all};
 use searcher::reached;
-use std::alloc::Global;
+use std::alloc::{AllocError, Global};
 use task::Task;
 use task_reader::read_task;
 use texts::{Page, say};
 
 /// How many states are met at most, where the words don't say.
-const MOST_STATES: u32 = 200_000;
+pub(crate) const MOST_STATES: u32 = 200_000;
+
+/// The points at which rules are broken.
+pub(crate) fn goals_in(alloc: Global, findings: &[BrokenRule]) -> Result<Vec<Goal>, AllocError> {
+    findings
+        .iter()
+        .map(|finding| Goal {
+            program: finding.program,
+            point: finding.point,
+        })
+        .collect(alloc)
+}
 
 /// The points of a task at which the bounds that the search for a certificate reached break a rule; none where it reached none.
 fn goals_of(alloc: Global, task: &Task) -> Result<Vec<Goal>, Memory> {
-    let mut goals = Vec::new(alloc);
-    if let Some(cert) = reached(alloc, task)? {
-        let findings = all_findings(alloc, task, &cert)?;
-        for finding in &findings {
-            goals.push(Goal {
-                program: finding.program,
-                point: finding.point,
-            })?;
-        }
+    match reached(alloc, task)? {
+        None => Ok(Vec::new(alloc)),
+        Some(cert) => Ok(goals_in(alloc, &all_findings(alloc, task, &cert)?)?),
     }
-    Ok(goals)
 }
 
 /// Writes that no run was found, and how far the search came. That claims nothing.

@@ -6,12 +6,15 @@ mod attacking;
 mod breaching;
 mod deeds;
 mod following;
+mod known_bounds;
 pub mod laws;
+mod paging;
 mod parting;
 mod placing_words;
 pub mod questions;
 mod recording;
 mod refusals;
+mod scanning;
 pub mod usage;
 
 pub use answering::serve;

@@ -39,6 +39,16 @@ pub enum Question<'a> {
         task: &'a str,
         cert: Option<&'a str>,
     },
+    /// `page TASK` or `page TASK CERT`: an HTML page for review.
+    Page {
+        task: &'a str,
+        cert: Option<&'a str>,
+    },
+    /// `sarif TASK` or `sarif TASK CERT`: a log for code scanning and editors.
+    Log {
+        task: &'a str,
+        cert: Option<&'a str>,
+    },
     /// `text TASK`: the faults of a task's text.
     Faulty {
         task: &'a str,
@@ -74,6 +84,8 @@ fn of_task<'a>(command: &str, task: &'a str) -> Option<Question<'a>>
         "none" => Some(Question::Unfound { task }),
         "breach" => Some(Question::Breach { task, states: None }),
         "propose" => Some(Question::Proposed { task, cert: None }),
+        "page" => Some(Question::Page { task, cert: None }),
+        "sarif" => Some(Question::Log { task, cert: None }),
         "text" => Some(Question::Faulty { task }),
         "calls" => Some(Question::Calls { file: task }),
         _ => None,
@@ -102,6 +114,14 @@ fn of_pair<'a>(command: &str, task: &'a str, cert: &'a str) -> Option<Question<'
         }),
         "breach" => among(task, cert),
         "propose" => Some(Question::Proposed {
+            task,
+            cert: Some(cert),
+        }),
+        "page" => Some(Question::Page {
+            task,
+            cert: Some(cert),
+        }),
+        "sarif" => Some(Question::Log {
             task,
             cert: Some(cert),
         }),

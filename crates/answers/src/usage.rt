@@ -11,9 +11,11 @@ capwhy none TASK             what the search for a certificate came to
 capwhy breach TASK [STATES]  a run that breaks the sandbox, if one is found
 capwhy propose TASK          a certificate that is accepted, of untrusted programs too
 capwhy propose TASK CERT     the certificate of an older text, with its points where they are now
+capwhy page TASK [CERT]      an HTML page to look at: the answer, who reaches what, the programs by line
+capwhy sarif TASK [CERT]     the same as a log of SARIF, for code scanning and editors
 capwhy text TASK             where the faults of a task's text are
 capwhy calls RECORD          the calls of a record of strace -f
 capwhy follow TASK CALLS [REAL=MODEL ..]
                              whether recorded calls follow a task, whose places lie at MODEL where the record has REAL
-capwhy --help                this text
+capwhy --help                this text, of version 1.6
 ";

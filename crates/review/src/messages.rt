@@ -1,0 +1,137 @@
+//! Which step takes what an earlier one sent.
+
+use crate::room::Room;
+use fd_table::{End, Files, Object};
+use instruction_set::{Instruction, Operand, Syscall};
+use link_tree::LinkTree;
+use page::Message;
+use process::Process;
+use simulator::Machine;
+use task::Task;
+
+/// What a call does with a queue.
+#[derive(Clone, Copy)]
+pub(crate) enum Traffic {
+    Nothing,
+    /// It sends from an end, a descriptor or a byte alone.
+    Sends { end: End, carries: bool },
+    /// It takes what was sent to an end.
+    Takes { end: End, carries: bool },
+}
+
+/// What was sent from an end and isn't taken yet.
+#[derive(Clone, Copy)]
+struct Sent {
+    end: End,
+    message: Message,
+}
+
+/// What was sent and isn't taken yet.
+#[derive(Drop)]
+pub(crate) struct Queues {
+    sent: Vec<Sent>,
+}
+
+impl Queues {
+    /// Nothing was sent.
+    pub(crate) fn new(room: &Room) -> Queues {
+        Queues { sent: room.list() }
+    }
+
+    /// Notes what a step sends, or gives which message it takes.
+    pub(crate) fn pass(
+        &mut self,
+        room: &mut Room,
+        traffic: Traffic,
+        step: usize,
+    ) -> Option<Message> {
+        match traffic {
+            Traffic::Nothing => None,
+            Traffic::Sends { end, carries } => {
+                let message = Message {
+                    sent_at: step,
+                    is_descriptor: carries,
+                };
+                room.push(&mut self.sent, Sent { end, message });
+                None
+            }
+            Traffic::Takes { end, .. } => self.take(end),
+        }
+    }
+
+    /// Takes the first message that was sent from the other end of a pair.
+    fn take(&mut self, end: End) -> Option<Message> {
+        let other = End {
+            pair: end.pair,
+            side: end.side.other(),
+        };
+        let place = self.sent.iter().position(|sent| sent.end == other)?;
+        let sent = self.sent.remove(place);
+        Some(sent.message)
+    }
+}
+
+/// The value of an operand.
+fn value_of(process: &Process, operand: Operand) -> u32 {
+    match operand {
+        Operand::Number(number) => number,
+        Operand::Register(register) => process.registers[register.number() as usize],
+    }
+}
+
+/// What the descriptor of a process at a number is of, if there is one.
+fn object_at(files: &Files, process: u8, number: u8) -> Option<Object> {
+    match files.get(process, number) {
+        None => None,
+        Some(descriptor) => {
+            let what = files.what(descriptor.description);
+            Some(what.object)
+        }
+    }
+}
+
+/// The end that an operand of a process names, if it names one.
+fn end_of(
+    machine: &Machine<'_, LinkTree>,
+    number: u8,
+    process: &Process,
+    operand: Operand,
+) -> Option<End> {
+    let at = u8::try_from(value_of(process, operand)).ok()?;
+    match object_at(machine.files(), number, at)? {
+        Object::End { end, .. } => Some(end),
+        Object::Node { .. } => None,
+    }
+}
+
+/// The call at which a process stands.
+fn call_of<'t>(task: &'t Task, process: &Process) -> Option<&'t Syscall> {
+    let named = task.programs().get(usize::from(process.program))?;
+    match named.program.code().get(usize::from(process.point)) {
+        Some(Instruction::Invoke { call, .. }) => Some(call),
+        _ => None,
+    }
+}
+
+/// What a process does with a queue, if its next call succeeds.
+fn next_traffic(task: &Task, machine: &Machine<'_, LinkTree>, number: u8) -> Option<Traffic> {
+    let process = machine.processes().get(usize::from(number))?;
+    let (operand, sends, carries) = match call_of(task, process)? {
+        Syscall::Write { descriptor, .. } => (*descriptor, true, false),
+        Syscall::Sendfd { descriptor, .. } => (*descriptor, true, true),
+        Syscall::Read { descriptor } => (*descriptor, false, false),
+        Syscall::Recvfd { descriptor } => (*descriptor, false, true),
+        _ => return None,
+    };
+    let end = end_of(machine, number, process, operand)?;
+    Some(if sends {
+        Traffic::Sends { end, carries }
+    } else {
+        Traffic::Takes { end, carries }
+    })
+}
+
+/// What a process does with a queue, if its next call succeeds; nothing where that goes through no end.
+pub(crate) fn traffic_of(task: &Task, machine: &Machine<'_, LinkTree>, number: u8) -> Traffic {
+    next_traffic(task, machine, number).unwrap_or(Traffic::Nothing)
+}

@@ -1,0 +1,115 @@
+//! The panels of the file tree, and the picture in words.
+
+use crate::room::Room;
+use crate::views::Reviewed;
+use page::{Half, Panel, Piece, Program};
+use task::{Grant, TaskNode};
+use texts::{Page, parts_of, say};
+
+/// Whether a node lies in a grant.
+fn is_granted(grants: &[Grant], node: &TaskNode) -> bool {
+    grants
+        .iter()
+        .any(|grant| node.place.begins_with(&grant.path))
+}
+
+/// The panel of a grant: what it allows, and the nodes beneath it by their places from there on.
+pub(crate) fn grant_panel(room: &mut Room, reviewed: &Reviewed<'_>, grant: &Grant) -> Panel {
+    let mut allows = Page::new(room.alloc());
+    say!(&mut allows; if grant.operations.is_empty() { "allows nothing" } else { "allows" });
+    for operation in &grant.operations {
+        say!(&mut allows; " ", *operation);
+    }
+    let mut nodes = Page::new(room.alloc());
+    let mut separator = "";
+    let front = grant.path.names_text().len();
+    for node in reviewed.scene.task.nodes() {
+        if node.place.begins_with(&grant.path) {
+            if let Some(beneath) = node.place.names_text().get(front..) {
+                if !beneath.is_empty() {
+                    say!(&mut nodes; separator, beneath.strip_prefix(b"/".as_slice()).unwrap_or(beneath));
+                    separator = " ";
+                }
+            }
+        }
+    }
+    Panel {
+        is_grant: true,
+        name: room.text(grant.name.as_bytes()),
+        path: room.text(grant.path.text()),
+        allows: room.bytes(allows),
+        nodes: room.bytes(nodes),
+    }
+}
+
+/// The panel of what lies in no grant.
+pub(crate) fn other_panel(room: &mut Room, reviewed: &Reviewed<'_>) -> Panel {
+    let task = reviewed.scene.task;
+    let mut nodes = Page::new(room.alloc());
+    let mut separator = "";
+    for node in task.nodes() {
+        if !is_granted(task.grants(), node) {
+            say!(&mut nodes; separator, node.place.text());
+            separator = " ";
+        }
+    }
+    Panel {
+        is_grant: false,
+        name: room.text("in no grant"),
+        path: room.list(),
+        allows: room.list(),
+        nodes: room.bytes(nodes),
+    }
+}
+
+/// What a half holds, in a sentence.
+fn half_words(room: &mut Room, program: &Program, half: &Half) -> Vec<Piece> {
+    let mut page = Page::new(room.alloc());
+    say!(&mut page; program.name.as_bytes(), " ", half.title.as_slice());
+    if half.rows.is_empty() {
+        say!(&mut page; " holds nothing that isn't told elsewhere");
+    } else {
+        say!(&mut page; " holds at most: ");
+    }
+    let mut separator = "";
+    for row in &half.rows {
+        say!(&mut page; separator, row.name.as_slice(), " with ", row.held.as_slice());
+        for note in &row.notes {
+            say!(&mut page; ", ", note.text.as_slice());
+        }
+        separator = "; ";
+    }
+    say!(&mut page; ".");
+    room.sentence(&page)
+}
+
+/// The picture in words: each half, and each grant.
+pub(crate) fn picture_words(
+    room: &mut Room,
+    programs: &[Program],
+    panels: &[Panel],
+) -> Vec<Vec<Piece>> {
+    let mut words = room.list();
+    for program in programs {
+        for half in &program.halves {
+            let sentence = half_words(room, program, half);
+            room.push(&mut words, sentence);
+        }
+    }
+    for panel in panels {
+        if panel.is_grant {
+            let (name, path) = (panel.name.as_slice(), panel.path.as_slice());
+            let sentence = room.sentence(parts_of!(
+                "The grant ",
+                name,
+                " is ",
+                path,
+                ", and ",
+                panel.allows.as_slice(),
+                "."
+            ));
+            room.push(&mut words, sentence);
+        }
+    }
+    words
+}

@@ -1,0 +1,272 @@
+//! The run that breaks something, step by step.
+
+use crate::listings::tail_begin;
+use crate::messages::{Queues, Traffic, traffic_of};
+use crate::room::{Room, short};
+use crate::views::Reviewed;
+use explore::FoundRun;
+use link_tree::LinkTree;
+use page::{Lane, Message, Place, Run, Step};
+use rights::{Memory, Stop};
+use simulator::{Acted, LineResult, Machine};
+use syscalls::Event;
+use task::Task;
+use texts::{Page, parts_of, say};
+
+/// How many steps are shown at most: the last ones.
+const MAX_STEPS: usize = 256;
+
+/// A step, as the machine did it.
+#[derive(Drop)]
+struct Acting {
+    process: u8,
+    acted: Acted,
+    /// Whether it was in the mode before.
+    is_inside: bool,
+    /// Whether it is in the mode behind it.
+    stays_inside: bool,
+    /// The process that it made.
+    made: Option<u8>,
+    /// What it sent or took.
+    traffic: Traffic,
+    takes: Option<Message>,
+}
+
+/// Whether a step is shown: an event by which a process waits, or looks up one of several names, isn't.
+fn is_shown(outcome: LineResult) -> bool {
+    match outcome {
+        LineResult::Done | LineResult::Halted | LineResult::Value(_) | LineResult::Failed(..) =>
+            true,
+        LineResult::Waiting | LineResult::Walking | LineResult::Ended => false,
+    }
+}
+
+/// What is known before a step.
+#[derive(Clone, Copy)]
+struct Before {
+    process: u8,
+    /// Whether it is in the mode.
+    is_inside: bool,
+    /// How many processes there are.
+    processes: usize,
+    /// What it sends or takes, if its call succeeds.
+    traffic: Traffic,
+}
+
+/// A machine that shows what it does.
+#[derive(Drop)]
+struct Player<'a> {
+    task: &'a Task,
+    machine: Machine<'a, LinkTree>,
+    queues: Queues,
+    steps: Vec<Acting>,
+}
+
+impl<'a> Player<'a> {
+    /// Whether a process is in the mode.
+    fn is_inside(&self, process: u8) -> bool {
+        match self.machine.processes().get(usize::from(process)) {
+            Some(process) => process.mode(),
+            None => false,
+        }
+    }
+
+    /// Does an event, and keeps its step if it is shown.
+    fn play(&mut self, room: &mut Room, event: Event) -> Result<(), Stop> {
+        let before = Before {
+            process: event.process,
+            is_inside: self.is_inside(event.process),
+            processes: self.machine.processes().len(),
+            traffic: traffic_of(self.task, &self.machine, event.process),
+        };
+        let line = self.machine.step(event)?;
+        match line.acted {
+            None => {}
+            Some(acted) => self.keep(room, before, acted),
+        }
+        Ok(())
+    }
+
+    /// Keeps what a process did, if it is shown.
+    fn keep(&mut self, room: &mut Room, before: Before, acted: Acted) {
+        let outcome = acted.outcome;
+        if !is_shown(outcome) {
+            return;
+        }
+        let has_worked = matches!(outcome, LineResult::Value(_));
+        let traffic = if has_worked {
+            before.traffic
+        } else {
+            Traffic::Nothing
+        };
+        let takes = self.queues.pass(room, traffic, self.steps.len());
+        let has_made = self.machine.processes().len() > before.processes;
+        let step = Acting {
+            process: before.process,
+            acted,
+            is_inside: before.is_inside,
+            stays_inside: self.is_inside(before.process),
+            made: if has_made {
+                Some(short(before.processes))
+            } else {
+                None
+            },
+            traffic,
+            takes,
+        };
+        room.push(&mut self.steps, step);
+    }
+}
+
+/// The steps of a run.
+fn steps_of(room: &mut Room, task: &Task, events: &[Event]) -> Result<Vec<Acting>, Memory> {
+    let Ok(machine) = Machine::start(room.alloc(), task) else {
+        return Err(Memory);
+    };
+    let mut player = Player {
+        task,
+        machine,
+        queues: Queues::new(room),
+        steps: room.list(),
+    };
+    for event in events {
+        if player.play(room, *event).is_err() {
+            return Err(Memory);
+        }
+    }
+    Ok(player.steps)
+}
+
+/// The processes that act in some steps, as they come first.
+fn acting_processes(room: &mut Room, steps: &[Acting]) -> Vec<u8> {
+    let mut processes = room.list();
+    for step in steps {
+        if !processes.contains(&step.process) {
+            room.push(&mut processes, step.process);
+        }
+    }
+    processes
+}
+
+/// The lane of a process.
+fn lane_of(steps: &[Acting], process: u8) -> Lane {
+    let first = steps.iter().find(|step| step.process == process);
+    Lane {
+        forked_at: steps.iter().position(|step| step.made == Some(process)),
+        enters_at: steps.iter().position(|step| step.process == process
+            && !step.is_inside
+            && step.stays_inside),
+        is_inside: match first {
+            Some(step) => step.is_inside,
+            None => false,
+        },
+    }
+}
+
+/// What a step answers.
+fn result_text(room: &mut Room, outcome: LineResult) -> Vec<u8> {
+    match outcome {
+        LineResult::Value(value) => room.text(parts_of!("= ", value)),
+        LineResult::Failed(errno, cause) => {
+            room.text(parts_of!("! ", errno.name(), " ", cause.name()))
+        }
+        LineResult::Halted => room.text("halt"),
+        LineResult::Done | LineResult::Waiting | LineResult::Walking | LineResult::Ended => {
+            room.text("ok")
+        }
+    }
+}
+
+/// What a step does to nodes, or what it sends or takes.
+fn deed_text(room: &mut Room, step: &Acting) -> Vec<u8> {
+    let mut page = Page::new(room.alloc());
+    let mut separator = "";
+    for effect in &step.acted.effects {
+        say!(&mut page; separator, effect.op, " ", effect.place.as_slice());
+        separator = ", ";
+    }
+    say!(&mut page; match step.traffic {
+        Traffic::Nothing => "",
+        Traffic::Sends { carries: true, .. } => "sends a descriptor",
+        Traffic::Sends { carries: false, .. } => "sends a byte",
+        Traffic::Takes { carries: true, .. } => "takes a descriptor",
+        Traffic::Takes { carries: false, .. } => "takes a byte",
+    });
+    room.bytes(page)
+}
+
+/// A message whose step is shown, among those from one on.
+fn shown_message(message: Message, first: usize) -> Option<Message> {
+    let sent_at = message.sent_at.checked_sub(first)?;
+    Some(Message {
+        sent_at,
+        is_descriptor: message.is_descriptor,
+    })
+}
+
+/// The step as a page shows it, among those from one on.
+fn shown_step(
+    room: &mut Room,
+    reviewed: &Reviewed<'_>,
+    processes: &[u8],
+    first: usize,
+    step: &Acting,
+) -> Option<Step> {
+    let named = reviewed
+        .scene
+        .task
+        .programs()
+        .get(usize::from(step.acted.program))?;
+    let written = reviewed.scene.written(step.acted.program, step.acted.point);
+    let (text, tail) = written.text.split_at(tail_begin(written.text));
+    let made = step.made.and_then(|made| processes.iter().position(|process| *process == made));
+    Some(Step {
+        lane: processes
+            .iter()
+            .position(|process| *process == step.process)?,
+        who: room.text(parts_of!(step.process, " ", named.name.as_bytes())),
+        line: written.line,
+        place: Place {
+            program: named.name,
+            point: step.acted.point,
+        },
+        text: room.text(text),
+        tail: room.text(tail),
+        result: result_text(room, step.acted.outcome),
+        deed: deed_text(room, step),
+        is_inside: step.is_inside,
+        forks: made,
+        takes: step.takes.and_then(|message| shown_message(message, first)),
+    })
+}
+
+/// The run that breaks something, as a page shows it.
+pub(crate) fn run_of(
+    room: &mut Room,
+    reviewed: &Reviewed<'_>,
+    found: &FoundRun,
+) -> Result<Run, Memory> {
+    let all = steps_of(room, reviewed.scene.task, &found.events)?;
+    let first = all.len().saturating_sub(MAX_STEPS);
+    let last = all.get(first..).unwrap_or(&[]);
+    let processes = acting_processes(room, last);
+    let mut lanes = room.list();
+    for process in &processes {
+        room.push(&mut lanes, lane_of(last, *process));
+    }
+    let mut steps = room.list();
+    for step in last {
+        if let Some(step) = shown_step(room, reviewed, &processes, first, step) {
+            room.push(&mut steps, step);
+        }
+    }
+    let mut end = Page::new(room.alloc());
+    explore::add_breach(&mut end, &found.breach, &found.detail);
+    let end = room.bytes(end);
+    Ok(Run {
+        lanes,
+        steps,
+        left_out: u32::try_from(first).unwrap_or(u32::MAX),
+        end: room.sentence(end.strip_suffix(b"\n".as_slice()).unwrap_or(&end)),
+    })
+}

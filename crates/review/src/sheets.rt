@@ -1,0 +1,75 @@
+//! The sheet of a page.
+
+use crate::heads::header_of;
+use crate::listings::listings_of;
+use crate::matrices::matrix_of;
+use crate::pictures::picture_of;
+use crate::room::Room;
+use crate::runs::run_of;
+use crate::views::{Outcome, Reviewed, views_of};
+use checker::rule::RULES;
+use explain::{rule_advice, rule_title, rule_words};
+use page::{RuleText, Run, Sheet};
+use rights::Memory;
+use std::alloc::Global;
+use texts::parts_of;
+
+/// The rules that are broken, each once, in words.
+fn broken_rules(room: &mut Room, reviewed: &Reviewed<'_>) -> Vec<RuleText> {
+    let mut rules = room.list();
+    for rule in RULES {
+        if reviewed.findings.iter().any(|found| found.rule == rule) {
+            let text = RuleText {
+                number: rule.number(),
+                name: room.text(rule_title(rule)),
+                text: room.text(parts_of!(rule_words(rule), ". ", rule_advice(rule))),
+            };
+            room.push(&mut rules, text);
+        }
+    }
+    rules
+}
+
+/// The run that breaks something, if one is found. One in which untrusted programs do what they like isn't drawn: they don't do what stands in the listing.
+fn found_run(room: &mut Room, reviewed: &Reviewed<'_>) -> Result<Option<Run>, Memory> {
+    match reviewed.outcome {
+        Outcome::Broken(found) => Ok(Some(run_of(room, reviewed, found)?)),
+        Outcome::Attacked { .. } | Outcome::Accepted | Outcome::Refused | Outcome::Undecided => Ok(
+            None,
+        ),
+    }
+}
+
+/// The command that answers the same.
+fn command_of(room: &mut Room, reviewed: &Reviewed<'_>) -> Vec<u8> {
+    let task = reviewed.task_file;
+    match (reviewed.cert_file, reviewed.outcome) {
+        (Some(cert), Outcome::Accepted) => room.text(parts_of!("capwhy list ", task, " ", cert)),
+        (Some(cert), _) => room.text(parts_of!("capwhy no ", task, " ", cert)),
+        (None, Outcome::Broken(_) | Outcome::Attacked { .. }) => room.text(parts_of!(
+            "capwhy breach ",
+            task
+        )),
+        (None, _) => room.text(parts_of!("capwhy none ", task)),
+    }
+}
+
+/// The sheet of a page. Want of memory is the only error.
+pub fn sheet_of(alloc: Global, reviewed: &Reviewed<'_>) -> Result<Sheet, Memory> {
+    let mut room = Room::new(alloc);
+    let room = &mut room;
+    let views = views_of(room, reviewed);
+    let sheet = Sheet {
+        header: header_of(room, reviewed, &views),
+        run: found_run(room, reviewed)?,
+        picture: picture_of(room, reviewed, &views),
+        rights: matrix_of(room, reviewed, &views),
+        programs: listings_of(room, reviewed, &views),
+        rules: broken_rules(room, reviewed),
+        command: command_of(room, reviewed),
+    };
+    if room.is_short() {
+        return Err(Memory);
+    }
+    Ok(sheet)
+}
