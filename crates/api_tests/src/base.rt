@@ -30,7 +30,21 @@ halt
 /// Parts of a text, each with what stands in its place.
 pub(super) type Changes<'a> = &'a [(&'a str, &'a str)];
 
-/// The text with each change made, in turn, at the first place; nothing where a part isn't there.
+/// The text with a change made at the first place; nothing where the part isn't there.
+fn changed_once(
+    alloc: Global,
+    text: &str,
+    old: &str,
+    new: &str,
+) -> Result<Option<String>, AllocError> {
+    let Some((before, behind)) = text.split_once(old) else {
+        return Ok(None);
+    };
+    let made = format!(in alloc; "{before}{new}{behind}")?;
+    Ok(Some(made))
+}
+
+/// The text with each change made, in turn; nothing where a part isn't there.
 pub(super) fn changed(
     alloc: Global,
     text: &str,
@@ -38,9 +52,8 @@ pub(super) fn changed(
 ) -> Result<Option<String>, AllocError> {
     let mut text = String::from_str(alloc, text)?;
     for (old, new) in changes {
-        let made = match text.split_once(*old) {
-            Some((before, behind)) => format!(in alloc; "{before}{new}{behind}")?,
-            None => return Ok(None),
+        let Some(made) = changed_once(alloc, &text, old, new)? else {
+            return Ok(None);
         };
         text = made;
     }

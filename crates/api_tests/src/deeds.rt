@@ -155,31 +155,70 @@ fn shown(line: &Line) -> Option<(u8, LineResult)> {
     }
 }
 
+/// The program of an instruction, with an end for what follows an error.
+fn program_of(alloc: Global, text: &str) -> Result<Program, Fail> {
+    let text = format!(in alloc; "{text}\ne: halt\n")?;
+    Ok(assemble(alloc, text.as_str())?)
+}
+
+/// The line of a step in which the event's process is made to do something.
+fn line_as(
+    rt: &impl Abort,
+    machine: &mut Machine<'_, LinkTree>,
+    event: Event,
+    program: &Program,
+    (value, point): (u32, u8),
+) -> Result<Line, Fail> {
+    assert!(rt; machine.may_stand_at(event.process, point));
+    Ok(machine.step_as(
+        event,
+        first(rt, program),
+        [value, 0, 0, 0, 0, 0, 0, 0],
+        point,
+    )?)
+}
+
+/// The line of a step.
+fn line_of(
+    rt: &impl Abort,
+    alloc: Global,
+    machine: &mut Machine<'_, LinkTree>,
+    event: Event,
+    does: Option<Does<'_>>,
+) -> Result<Line, Fail> {
+    match does {
+        None => Ok(machine.step(event)?),
+        Some((text, value, point)) => {
+            let program = program_of(alloc, text)?;
+            line_as(rt, machine, event, &program, (value, point))
+        }
+    }
+}
+
+/// Plays a step, which shows what its row says.
+fn plays_row(
+    rt: &impl Abort,
+    alloc: Global,
+    machine: &mut Machine<'_, LinkTree>,
+    number: usize,
+    (process, does, shows): Row<'_>,
+) -> Result<(), Fail> {
+    let event = Event {
+        process,
+        input: 0,
+        refuse: false,
+    };
+    let line = line_of(rt, alloc, machine, event, does)?;
+    assert!(rt; shown(&line) == shows, "row {number}");
+    Ok(())
+}
+
 /// Plays steps of `main` and this `child`, each of which shows what its row says.
 fn plays(rt: &impl Abort, alloc: Global, child: &str, rows: &[Row<'_>]) -> Result<(), Fail> {
     let task = marked_task(alloc, assemble(alloc, MAIN)?, assemble(alloc, child)?)?;
     let mut machine: Machine<'_, LinkTree> = Machine::start(alloc, &task)?;
-    for (number, (process, does, shows)) in rows.iter().enumerate() {
-        let event = Event {
-            process: *process,
-            input: 0,
-            refuse: false,
-        };
-        let line = match does {
-            None => machine.step(event)?,
-            Some((text, value, point)) => {
-                let text = format!(in alloc; "{text}\ne: halt\n")?;
-                let program = assemble(alloc, text.as_str())?;
-                assert!(rt; machine.may_stand_at(*process, *point), "row {number}");
-                machine.step_as(
-                    event,
-                    first(rt, &program),
-                    [*value, 0, 0, 0, 0, 0, 0, 0],
-                    *point,
-                )?
-            }
-        };
-        assert!(rt; shown(&line) == *shows, "row {number}");
+    for (number, row) in rows.iter().enumerate() {
+        plays_row(rt, alloc, &mut machine, number, *row)?;
     }
     Ok(())
 }
