@@ -53,10 +53,11 @@ impl Depth {
         }
     }
 
-    /// So many notes, behind a plain byte. A note begins behind a number or `AT_FDCWD`, and `->` ends none.
+    /// So many notes, behind a plain byte. A note begins behind a number or `AT_FDCWD`, but `<<` begins none, and `->` ends none.
     fn notes_behind(self, byte: u8) -> usize {
         let may_begin = self.notes > 0 || self.last.is_ascii_digit() || self.last == b'D';
         match byte {
+            b'<' if self.last == b'<' => self.notes.saturating_sub(1),
             b'<' if may_begin => self.notes.saturating_add(1),
             b'>' if self.last != b'-' => self.notes.saturating_sub(1),
             _ => self.notes,

@@ -6,7 +6,8 @@ ghost use Rattle.records.specs.EntryViews.{calls_seen, record_entry_seen, event_
 ghost use Rattle.records.specs.Calls.{Ended, RecordedCalls, are_calls};
 ghost use Rattle.records.specs.CallsViews.{FailsCalls, ReadsCalls};
 ghost use Rattle.records.specs.ReadingViews.{Reads, Tests};
-ghost use Rattle.records.specs.Readings.{Form, NoEnd, calls_of_text, ends_behind, entry_of_text, entry_of_words, recorded_event_of, faulty, is_counts_line, calls_behind, read_last, calls_of_lines, with_no_more};
+ghost use Rattle.records.specs.Readings.{Form, NoEnd, calls_behind, calls_of_lines, calls_of_text, ends_behind, entry_of_text, entry_of_words, faulty};
+ghost use Rattle.records.specs.Readings.{is_counts_line, read_last, recorded_event_of, with_no_more};
 ghost use Rattle.records.specs.Texts.{calls_text, counts_line, entry_text};
 
 use crate::entries::{Entry, Event};

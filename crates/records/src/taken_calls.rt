@@ -3,6 +3,7 @@
 use crate::argument_values::{Mention, behind, first_listed, here_note, mention_of};
 use crate::entries::Reason;
 use crate::forms::{Form, OnDescriptor, OnName, Opening, Streaming, form_of};
+use crate::held::Kept;
 use crate::other_rights::{OtherRight, Protection};
 use crate::runs::Run;
 use crate::seen_calls::SeenCall;
@@ -91,8 +92,18 @@ fn take_form(run: &mut Run, seen: &SeenCall<'_>, form: Form) {
     }
 }
 
+/// Notes which the current directory is, where that isn't known and the call tells it.
+fn note_directory(run: &mut Run, seen: &SeenCall<'_>) {
+    if matches!(run.known.process.directory, Kept::Unknown) {
+        if let Some(note) = here_note(seen.argument(0)) {
+            run.known.process.directory = run.known.kept_of_note(note);
+        }
+    }
+}
+
 /// Takes a call.
 pub(crate) fn take(run: &mut Run, seen: &SeenCall<'_>) {
+    note_directory(run, seen);
     let form = form_of(seen.name.bytes);
     if run.known.process.is_loading {
         if is_of_loader(form) {
