@@ -1,16 +1,23 @@
 -- What is no answer, by the files that are told.
 use Rattle.std.proofs.Common.{◌≡◌, ℕ, List, [], ◌∷◌, ◌++◌, Some, refl, inl, inr, subst, sym, ◌∙◌}
-use Rattle.std.specs.Prelude.{false, Option, Result, Ok, codes}
+use Rattle.std.specs.Prelude.{◌⊎◌, false, Option, Result, Ok, codes}
 use Rattle.certificate.specs.Bounds.{Certificate}
 use Rattle.certificate_text.specs.Readings.{certificate_of_text}
 use Rattle.checker.specs.Findings.{BrokenRule, findings}
 use Rattle.checker.specs.Verdicts.{IsAccepted}
+use Rattle.explore.specs.Texts.{schedule_text}
+use Rattle.follow.specs.Shows.{IsShown, Witness, events_of}
+use Rattle.records.specs.Calls.{RecordedCalls}
+use Rattle.records.specs.Readings.{calls_of_text}
+use Rattle.records.specs.Texts.{calls_text}
 use Rattle.rules.specs.Expansions.{expansion}
 use Rattle.searcher.specs.Flat.{flat}
 use Rattle.task.specs.Plans.{Plan, program_name}
 use Rattle.task_reader.specs.Reading.{task_of}
-use Rattle.answers.specs.Answered.{SaysBroken, SaysFound, SaysWhether}
-use Rattle.answers.specs.NoAnswers.{NoSaysWhether, NoneSaysWhether}
+use Rattle.answers.specs.Answered.{SaysBroken, SaysFollowed, SaysFound, SaysNoTask, SaysOfSearch, SaysWhether}
+use Rattle.answers.specs.NoAnswers.{LogSaysWhether, NoSaysWhether, NoneSaysWhether, RecordsAreHeard}
+use Rattle.answers.specs.PlacingWords.{placings_in}
+use Rattle.explain.specs.TaskTexts.{IsTaskText}
 use Rattle.explain.specs.Telling.{HasHead, Tells, TellsEach, none_yet, one_more, finding_text, point_with_line}
 
 same_some : {A : Type 0} {x y : A} → Some x ≡ Some y → x ≡ y
@@ -95,4 +102,55 @@ none_says = record {
   fits = λ files task text plan bounds before after is_text is_task is_flat accepted answers.
       let plan_is = plan_of text answers.text plan 1 is_task (same_some (sym answers.is_file ∙ is_text)) answers.says in
       answers.says.unfound refl bounds (subst (λ (p : Plan). flat p ≡ Some bounds) (sym plan_is) is_flat) (subst (λ (p : Plan). IsAccepted p bounds) (sym plan_is) accepted);
+}
+
+-- ## Logs, and recorded calls
+log_refused : (files : List ℕ → Option (List ℕ)) (task text : List ℕ) → files task ≡ Some text → (IsTaskText text → ⊥)
+    → SaysOfSearch (Some files) task 0 ⊎ SaysNoTask (Some files) task 0 → ⊥
+log_refused files task text is_text refused (inl says) =
+    refused (says.says.plan, sym (λ k. task_of (same_some (sym says.is_file ∙ is_text) k)) ∙ says.says.is_task)
+log_refused files task text is_text refused (inr says) = let clash = says.told in cc
+
+log_fits : (files : List ℕ → Option (List ℕ)) (task text : List ℕ) (plan : Plan) (bounds : Certificate) (before after : Option (List ℕ)) → files task ≡ Some text
+    → task_of text ≡ Ok plan → flat plan ≡ Some bounds → IsAccepted plan bounds → SaysOfSearch (Some files) task 1 ⊎ SaysNoTask (Some files) task 1 → ⊥
+log_fits files task text plan bounds before after is_text is_task is_flat accepted (inl says) =
+    none_says.fits files task text plan bounds before after is_text is_task is_flat accepted says
+log_fits files task text plan bounds before after is_text is_task is_flat accepted (inr says) =
+    says.refused (plan, (λ k. task_of (same_some (sym says.is_file ∙ is_text) k)) ∙ is_task)
+
+pub log_says : LogSaysWhether
+log_says = record {
+  refused = λ files task text before after is_text refused answers. log_refused files task text is_text refused answers;
+  fits = λ files task text plan bounds before after is_text is_task is_flat accepted answers.
+      log_fits files task text plan bounds before after is_text is_task is_flat accepted answers;
+}
+
+begun : (calls : RecordedCalls) → calls_text calls ≡ [] → ⊥
+begun calls is = let clash = is in cc
+
+not_shown : (plan said : Plan) (places : List (List ℕ)) (recorded heard : RecordedCalls) (before after : Option (List ℕ)) → said ≡ plan → heard ≡ recorded
+    → ((witness : Witness) → IsShown plan (placings_in places) recorded witness → ⊥) → SaysFollowed said (placings_in places) heard 0 before after → ⊥
+not_shown plan said places recorded heard before after plan_is calls_are none (inl follows) =
+    none follows.1.witness
+    (subst (λ (c : RecordedCalls). IsShown plan (placings_in places) c follows.1.witness) calls_are
+    (subst (λ (p : Plan). IsShown p (placings_in places) heard follows.1.witness) plan_is follows.1.is_shown))
+not_shown plan said places recorded heard before after plan_is calls_are none (inr parts) = cc
+
+not_written : (plan : Plan) (places : List (List ℕ)) (calls : RecordedCalls) (before : List ℕ) → SaysFollowed plan (placings_in places) calls 0 (Some before) (Some before) → ⊥
+not_written plan places calls before (inl follows) =
+    let text = added_nothing before (schedule_text (events_of follows.1.witness.moves) ++ (codes "\n" ++ follows.1.writes.0)) (same_some follows.1.writes.1) in
+    let blank = second_empty (schedule_text (events_of follows.1.witness.moves)) (codes "\n" ++ follows.1.writes.0) text in
+    cc
+not_written plan places calls before (inr parts) = cc
+
+pub records_are_heard : RecordsAreHeard
+records_are_heard = record {
+  silent = λ files file status before answers.
+      begun answers.says.calls (added_nothing before (calls_text answers.says.calls) (same_some answers.says.writes));
+  unshown = λ files task calls text calls_text places plan recorded before after is_text is_calls is_task are_calls none answers.
+      not_shown plan answers.says.plan places recorded answers.says.calls before after
+      (same_ok (task_of text) (sym (λ k. task_of (same_some (sym answers.is_file ∙ is_text) k)) ∙ answers.says.is_task) is_task)
+      (same_ok (calls_of_text calls_text) (sym (λ k. calls_of_text (same_some (sym answers.is_calls_file ∙ is_calls) k)) ∙ answers.says.are_calls) are_calls)
+      none answers.says.says;
+  unwritten = λ files task calls places before answers. not_written answers.says.plan places answers.says.calls before answers.says.says;
 }

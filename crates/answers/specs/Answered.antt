@@ -85,6 +85,13 @@ pub record SaysOfChecked (files : Files) (task certificate : List ℕ) (status :
   pub is_bounds : IsFile files certificate bounds_text
   pub says : SaysChecked status text bounds_text
 
+-- a text that is no task's, with status 1
+pub record SaysNoTask (files : Files) (name : List ℕ) (status : ℕ) : Type 0 where
+  pub text : List ℕ
+  pub is_file : IsFile files name text
+  pub told : status ≡ 1
+  pub refused : IsTaskText text → ⊥
+
 -- A certificate is written that is accepted, with status 0, or none, with status 1.
 pub record Offers (plan : Plan) (before after : Option (List ℕ)) : Type 0 where
   pub bounds : Certificate
@@ -141,19 +148,23 @@ pub record SaysOfRecord (files : Files) (name : List ℕ) (status : ℕ) (before
   pub is_file : IsFile files name text
   pub says : SaysCalls text status before after
 
--- A schedule is written, a blank line, and a text behind it, with status 0; 1 claims nothing.
-abbrev pub WritesSchedule : List Event → ℕ → Option (List ℕ) → Option (List ℕ) → Type 0
-WritesSchedule events status before after =
-    ((status ≡ 0) × (tally : List ℕ) × Took before after (schedule_text events ++ (codes "\n" ++ tally))) ⊎ (status ≡ 1)
+-- A schedule is written, a blank line, and a text behind it.
+abbrev pub WritesSchedule : List Event → Option (List ℕ) → Option (List ℕ) → Type 0
+WritesSchedule events before after = (tally : List ℕ) × Took before after (schedule_text events ++ (codes "\n" ++ tally))
+
+-- that with status 0, or 1
+abbrev pub SaysScheduled : List Event → ℕ → Option (List ℕ) → Option (List ℕ) → Type 0
+SaysScheduled events status before after = ((status ≡ 0) × WritesSchedule events before after) ⊎ (status ≡ 1)
 
 -- so of a run that shows recorded calls
-pub record Follows (plan : Plan) (placings : List Placing) (calls : RecordedCalls) (status : ℕ) (before after : Option (List ℕ)) : Type 0 where
+pub record Follows (plan : Plan) (placings : List Placing) (calls : RecordedCalls) (before after : Option (List ℕ)) : Type 0 where
   pub witness : Witness
   pub is_shown : IsShown plan placings calls witness
-  pub writes : WritesSchedule (events_of witness.moves) status before after
+  pub writes : WritesSchedule (events_of witness.moves) before after
 
+-- with status 0; 1 claims nothing
 abbrev pub SaysFollowed : Plan → List Placing → RecordedCalls → ℕ → Option (List ℕ) → Option (List ℕ) → Type 0
-SaysFollowed plan placings calls status before after = Follows plan placings calls status before after ⊎ (status ≡ 1)
+SaysFollowed plan placings calls status before after = ((status ≡ 0) × Follows plan placings calls before after) ⊎ (status ≡ 1)
 
 -- of the texts of a task and of recorded calls, with words REAL=MODEL
 pub record SaysWhetherFollowed (task calls_text : List ℕ) (places : List (List ℕ)) (status : ℕ) (before after : Option (List ℕ)) : Type 0 where
@@ -180,8 +191,8 @@ Answers files (Breach task states) status before after = SaysOfRuns files task s
 Answers files (Proposed task certificate) status before after = SaysOfTask files task status before after
 Answers files (Page task None) status before after = SaysOfSearch files task status
 Answers files (Page task (Some certificate)) status before after = SaysOfChecked files task certificate status
-Answers files (Log task None) status before after = SaysOfSearch files task status ⊎ (status ≡ 1)
-Answers files (Log task (Some certificate)) status before after = SaysOfChecked files task certificate status ⊎ (status ≡ 1)
+Answers files (Log task None) status before after = SaysOfSearch files task status ⊎ SaysNoTask files task status
+Answers files (Log task (Some certificate)) status before after = SaysOfChecked files task certificate status ⊎ SaysNoTask files task status
 Answers files (Faulty task) status before after = SaysOfFile files task status
 Answers files (Calls file) status before after = SaysOfRecord files file status before after
 Answers files (Followed task calls places) status before after = SaysOfFollowing files task calls places status before after

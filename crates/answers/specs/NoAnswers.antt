@@ -1,14 +1,19 @@
 -- What is no answer. (own)
-use Rattle.std.specs.Prelude.{◌≡◌, ℕ, false, List, [], Option, Some, Ok}
+use Rattle.std.specs.Prelude.{◌≡◌, ℕ, false, List, [], Option, Some, None, Ok}
 use Rattle.certificate.specs.Bounds.{Certificate}
 use Rattle.certificate_text.specs.Readings.{certificate_of_text}
 use Rattle.checker.specs.Findings.{BrokenRule}
 use Rattle.checker.specs.Verdicts.{IsAccepted}
+use Rattle.follow.specs.Shows.{IsShown, Witness}
+use Rattle.records.specs.Calls.{RecordedCalls}
+use Rattle.records.specs.Readings.{calls_of_text}
 use Rattle.searcher.specs.Flat.{flat}
 use Rattle.task.specs.Plans.{Plan}
 use Rattle.task_reader.specs.Reading.{task_of}
 use Rattle.answers.specs.Answered.{Answers}
-use Rattle.answers.specs.Questions.{Broken, Unfound}
+use Rattle.answers.specs.PlacingWords.{placings_in}
+use Rattle.answers.specs.Questions.{Broken, Calls, Followed, Log, Unfound}
+use Rattle.explain.specs.TaskTexts.{IsTaskText}
 use Rattle.explain.specs.Telling.{HasHead}
 
 -- status 0 to `no` of a certificate that isn't accepted, and 1 of one that is; nothing written; and a finding without its point
@@ -29,3 +34,19 @@ pub record NoneSaysWhether : Type 0 where
       → ((bounds : Certificate) → IsAccepted plan bounds → ⊥) → Answers (Some files) (Unfound task) 0 before after → ⊥
   pub fits : (files : List ℕ → Option (List ℕ)) (task text : List ℕ) (plan : Plan) (bounds : Certificate) (before after : Option (List ℕ)) → files task ≡ Some text
       → task_of text ≡ Ok plan → flat plan ≡ Some bounds → IsAccepted plan bounds → Answers (Some files) (Unfound task) 1 before after → ⊥
+
+-- status 0 to `sarif` of a text that is no task's, and 1 of a task whose flat certificate is accepted
+pub record LogSaysWhether : Type 0 where
+  pub refused : (files : List ℕ → Option (List ℕ)) (task text : List ℕ) (before after : Option (List ℕ)) → files task ≡ Some text
+      → (IsTaskText text → ⊥) → Answers (Some files) (Log task None) 0 before after → ⊥
+  pub fits : (files : List ℕ → Option (List ℕ)) (task text : List ℕ) (plan : Plan) (bounds : Certificate) (before after : Option (List ℕ)) → files task ≡ Some text
+      → task_of text ≡ Ok plan → flat plan ≡ Some bounds → IsAccepted plan bounds → Answers (Some files) (Log task None) 1 before after → ⊥
+
+-- nothing written to `calls`; status 0 to `follow` of calls that no run shows, and of any with nothing written
+pub record RecordsAreHeard : Type 0 where
+  pub silent : (files : List ℕ → Option (List ℕ)) (file : List ℕ) (status : ℕ) (before : List ℕ) → Answers (Some files) (Calls file) status (Some before) (Some before) → ⊥
+  pub unshown : (files : List ℕ → Option (List ℕ)) (task calls text calls_text : List ℕ) (places : List (List ℕ)) (plan : Plan) (recorded : RecordedCalls) (before after : Option (List ℕ))
+      → files task ≡ Some text → files calls ≡ Some calls_text → task_of text ≡ Ok plan → calls_of_text calls_text ≡ Ok recorded
+      → ((witness : Witness) → IsShown plan (placings_in places) recorded witness → ⊥) → Answers (Some files) (Followed task calls places) 0 before after → ⊥
+  pub unwritten : (files : List ℕ → Option (List ℕ)) (task calls : List ℕ) (places : List (List ℕ)) (before : List ℕ)
+      → Answers (Some files) (Followed task calls places) 0 (Some before) (Some before) → ⊥

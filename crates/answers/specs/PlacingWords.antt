@@ -1,17 +1,14 @@
 -- REAL=MODEL, as words say it: two paths from the root, with or without a slash at their ends. (own)
-use Rattle.std.specs.Prelude.{◌==◌, ◌-◌, ◌&&◌, ℕ, Bool, false, List, [], ◌∷◌, drop, take, length, Option, Some, None, if◌then◌else◌}
+use Rattle.std.specs.Prelude.{◌-◌, ◌&&◌, ℕ, List, [], ◌∷◌, drop, take, length, Option, Some, None, if◌then◌else◌}
 use Rattle.std.specs.List.{flat_map}
 use Rattle.std.specs.Str.{bytes_eq}
 use Rattle.file_tree.specs.Places.{slash}
+use Rattle.lookup.specs.Paths.{is_absolute}
 use Rattle.texts.specs.Parts.{parts}
 use Rattle.follow.specs.Places.{Placing}
 
 abbrev pub equals_sign : ℕ
 equals_sign = 61
-
-abbrev pub is_absolute : List ℕ → Bool
-is_absolute [] = false
-is_absolute (b ∷ text) = b == slash
 
 abbrev pub without_slash : List ℕ → List ℕ
 without_slash text = if bytes_eq (drop (length text - 1) text) (slash ∷ []) then take (length text - 1) text else text

@@ -7,10 +7,10 @@ use Rattle.texts.specs.Numbers.{at_most, number_of}
 use Rattle.command_line.specs.Orders.{is_dashed}
 use Rattle.answers.specs.PlacingWords.{placing_in}
 
--- what there is to ask; for a listing of a task, with the bounds of a certificate or without; for all rules that a certificate breaks;
--- for what the search comes to; for a run that breaks the sandbox, among so many states at most; for a certificate, of untrusted programs
--- too, or for one of an older text carried over; for a page to look at, or a log for code scanning, of a task alone or with a certificate; for the faults of a task's text; for the calls of a record of strace; for whether recorded calls
--- follow a task, whose places lie where words say
+-- what there is to ask; for a listing of a task, with the bounds of a certificate or without; for all rules that a certificate breaks; for what the search comes to; for
+-- a run that breaks the sandbox, among so many states at most; for a certificate, of untrusted programs too, or for one of an older text carried over; for a page to
+-- look at, or a log for code scanning, of a task alone or with a certificate; for the faults of a task's text; for the calls of a record of strace; for whether
+-- recorded calls follow a task, whose places lie where words say
 pub data Question : Type 0 where
   Usage : Question
   Listing : (task : List ℕ) (certificate : Option (List ℕ)) → Question
@@ -66,7 +66,8 @@ of_more [] question = question
 of_more (word ∷ words) question = None
 
 -- No words, or `--help`; `list TASK`, `none TASK`, `breach TASK`, `propose TASK`, `page TASK`, `sarif TASK`, `text TASK`, `calls RECORD`; `list TASK CERT`,
--- `breach TASK STATES`, `propose TASK CERT`, `page TASK CERT`, `sarif TASK CERT`, `no TASK CERT`; `follow TASK CALLS` and words REAL=MODEL. No name begins with `-`, and a number of states fits 32 bits.
+-- `breach TASK STATES`, `propose TASK CERT`, `page TASK CERT`, `sarif TASK CERT`, `no TASK CERT`; `follow TASK CALLS` and words REAL=MODEL. No name
+-- begins with `-`, and a number of states fits 32 bits.
 abbrev pub question_in : List (List ℕ) → Option Question
 question_in [] = Some Usage
 question_in (word ∷ []) = if_so (bytes_eq word (codes "--help")) Usage

@@ -2,13 +2,13 @@
 
 ghost use Rattle.std.specs.Prelude.{◌≡◌, ◌<◌, ◌-◌, ◌^◌, IfOk};
 
-use crate::deeds::add_deed;
 use console::Fault;
 use console::statuses::BROKEN;
 use explore::{
     Entry, FoundAttack, Move, Takeover, add_breach, add_schedule, breaks, events_of, takeovers,
     write_breach,
 };
+use review::add_deed;
 use rights::{Memory, Out, write_all};
 use std::alloc::{AllocError, Global};
 use syscalls::Event;

@@ -1,7 +1,7 @@
 //! Whether recorded calls follow a task.
 
 ghost use Rattle.std.specs.Prelude.{◌≡◌, ◌<◌, ◌-◌, ◌^◌, IfOk, map, string_bytes, true};
-ghost use Rattle.answers.specs.Answered.{SaysFollowed, SaysWhetherFollowed, WritesSchedule};
+ghost use Rattle.answers.specs.Answered.{SaysFollowed, SaysScheduled, SaysWhetherFollowed};
 ghost use Rattle.console.specs.Statuses.{is_done_status};
 ghost use Rattle.follow.specs.Shows.{events_of};
 ghost use Rattle.follow.specs.Views.{moves_of, placings_of};
@@ -168,7 +168,7 @@ fn write_followed<'a, W: Out>(
     out: &mut W,
 ) -> Result<u8, Refusal<'a>>
     requires { W.faults out.old < 2 ^ 64 - 1 }
-    ensures writes { IfOk result (λ status. WritesSchedule (events_of (moves_of moves.now)) status (W.taken out.old) (W.taken out.new)) }
+    ensures writes { IfOk result (λ status. SaysScheduled (events_of (moves_of moves.now)) status (W.taken out.old) (W.taken out.new)) }
     ensures done { IfOk result (λ status. is_done_status status ≡ true) }
 {
     let events = events_of(alloc, moves)?;
@@ -200,6 +200,7 @@ fn write_parted<'a, W: Out>(
 }
 
 /// Writes a run of a task that shows recorded calls, or how far the search for one came.
+#[tactic(auto, using(crate::proofs::Writes::run_followed))]
 fn write_held<'a, W: Out>(alloc: Global, held: &Held<'_>, out: &mut W) -> Result<u8, Refusal<'a>>
     requires { W.faults out.old < 2 ^ 64 - 1 }
     ensures says { IfOk result (λ status. SaysFollowed held.now.task.now (placings_of held.now.placings.now) (calls_seen held.now.entries.now) status

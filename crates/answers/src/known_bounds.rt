@@ -1,25 +1,29 @@
-//! The bounds by which a task is shown where no certificate is given.
+//! The bounds by which a task is shown: those of a certificate that is given, or else those that are found.
 
 ghost use Rattle.std.specs.Prelude.{◌≡◌, IfOk, Some, false, true};
+ghost use Rattle.answers.specs.Answered.{SaysChecked};
 ghost use Rattle.certificate.specs.Bounds.{Certificate};
 ghost use Rattle.checker.specs.Verdicts.{IsAccepted};
+ghost use Rattle.console.specs.Statuses.{is_done_status};
 ghost use Rattle.searcher.specs.Flat.{flat};
 
 use certificate::{Cert, Version};
 use checker::{BrokenRule, all_findings, expand};
+use console::{Fault, status_of_verdict};
 use rights::Memory;
 use searcher::{propose, reached, search};
 use std::alloc::Global;
 use task::{Task, none_marked};
+use text_checker::{Checked, check_texts};
 
-/// Bounds by which a task is shown: those of a certificate that is found, or else those that the search reached.
+/// Bounds by which a task is shown: those of a certificate that is given or found, or else those that the search reached.
 #[derive(Drop)]
 pub(crate) struct KnownBounds {
     /// With all bounds written.
     pub expanded: Cert,
     /// Whether there are any.
     pub has_bounds: bool,
-    /// Whether a certificate is found.
+    /// Whether they are those of a certificate that breaks no rule.
     pub is_accepted: bool,
     /// The rules that they break.
     pub findings: Vec<BrokenRule>,
@@ -71,4 +75,39 @@ pub(crate) fn known_bounds(alloc: Global, task: &Task) -> Result<KnownBounds, Me
         }
     }
     reached_bounds(alloc, task)
+}
+
+/// The texts of a task and a certificate, judged.
+#[derive(Drop)]
+pub(crate) struct Judged {
+    pub checked: Checked,
+    pub known: KnownBounds,
+    pub status: u8,
+}
+
+/// The bounds of a certificate that is given, with the rules that it breaks.
+fn given_bounds(alloc: Global, task: &Task, cert: &Cert) -> Result<KnownBounds, Memory> {
+    let findings = all_findings(alloc, task, cert)?;
+    Ok(KnownBounds {
+        expanded: expand(alloc, task, cert)?,
+        has_bounds: true,
+        is_accepted: findings.is_empty(),
+        findings,
+    })
+}
+
+/// Judges the texts of a task and a certificate.
+#[tactic(auto, using(crate::proofs::Refused::says_verdict, crate::proofs::Refused::verdict_done))]
+pub(crate) fn judge_texts<'a>(alloc: Global, file: &[u8], cert: &[u8]) -> Result<Judged, Fault<'a>>
+    ensures says { IfOk result (λ judged. SaysChecked judged.status file.now cert.now) }
+    ensures done { IfOk result (λ judged. is_done_status judged.status ≡ true) }
+{
+    let checked = check_texts(alloc, file, cert)?;
+    let known = given_bounds(alloc, &checked.claim.task, &checked.claim.cert)?;
+    let status = status_of_verdict(checked.verdict);
+    Ok(Judged {
+        checked,
+        known,
+        status,
+    })
 }

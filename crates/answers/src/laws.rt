@@ -1,6 +1,6 @@
 //! What is no answer. Each law is the contract of a function that does nothing.
 
-ghost use Rattle.answers.specs.NoAnswers.{NoSaysWhether, NoneSaysWhether};
+ghost use Rattle.answers.specs.NoAnswers.{LogSaysWhether, NoSaysWhether, NoneSaysWhether, RecordsAreHeard};
 
 /// The status of `no` says whether the certificate is accepted: 0 isn't the answer to one that is refused, nor 1 to one that is
 /// accepted; and nothing written is an answer to neither. (own)
@@ -12,4 +12,15 @@ pub fn no_says_whether_it_is_accepted()
 /// accepted. (own)
 pub fn none_says_something()
     ensures { NoneSaysWhether }
+{}
+
+/// The status of `sarif` says something: 0 isn't the answer to a text that is no task's, nor 1 to a task whose flat certificate is
+/// accepted. (own)
+pub fn a_log_says_something()
+    ensures { LogSaysWhether }
+{}
+
+/// Nothing written is no answer to `calls`, nor to `follow` with 0; and 0 is none to calls that no run of the task shows. (own)
+pub fn records_are_heard()
+    ensures { RecordsAreHeard }
 {}

@@ -4,7 +4,6 @@
 pub mod answering;
 mod attacking;
 mod breaching;
-mod deeds;
 mod following;
 mod known_bounds;
 pub mod laws;

@@ -2,23 +2,21 @@
 
 ghost use Rattle.std.specs.Prelude.{◌≡◌, ◌<◌, ◌-◌, ◌^◌, IfOk, true};
 ghost use Rattle.console.specs.Statuses.{is_done_status};
-ghost use Rattle.answers.specs.Answered.{SaysChecked, SaysFound, SaysOfChecked, SaysOfSearch};
+ghost use Rattle.answers.specs.Answered.{SaysFound, SaysOfChecked, SaysOfSearch};
 
 use crate::breaching::{MOST_STATES, goals_in};
-use crate::known_bounds::{KnownBounds, known_bounds};
-use checker::{BrokenRule, all_findings, expand};
+use crate::known_bounds::{Judged, KnownBounds, judge_texts, known_bounds};
 use console::statuses::{BROKEN, DONE};
-use console::{Fault, Source, status_of_verdict};
+use console::{Fault, Source};
 use explain::Scene;
-use explore::{Deeds, Explored, Watcher, explore};
+use explore::{Deeds, Explored, FoundAttack, Watcher, explore};
 use page::{Html, add_sheet};
-use review::{Outcome, Reviewed, sheet_of};
+use review::{Outcome, Reviewed, played_moves, sheet_of};
 use rights::{Out, write_all};
 use std::alloc::Global;
 use task::Task;
 use task_reader::read_task;
 use task_text::texts_of_file;
-use text_checker::check_texts;
 
 /// Writes a page.
 fn write_page<'a, W: Out>(
@@ -35,13 +33,13 @@ fn write_page<'a, W: Out>(
     Ok(())
 }
 
-/// Writes the page of a task with a certificate that is given, and breaks these rules.
+/// Writes the page of a task with a certificate that is given.
 fn write_given<'a, 'n, W: Out>(
     alloc: Global,
     task_name: &'n str,
     cert_name: &'n str,
     scene: Scene<'n>,
-    findings: &'n [BrokenRule],
+    known: &'n KnownBounds,
     out: &mut W,
 ) -> Result<(), Fault<'a>>
     requires { W.faults out.old < 2 ^ 64 - 1 }
@@ -51,8 +49,8 @@ fn write_given<'a, 'n, W: Out>(
         cert_file: Some(cert_name),
         scene,
         has_bounds: true,
-        findings,
-        outcome: if findings.is_empty() {
+        findings: &known.findings,
+        outcome: if known.is_accepted {
             Outcome::Accepted
         } else {
             Outcome::Refused
@@ -61,29 +59,21 @@ fn write_given<'a, 'n, W: Out>(
     write_page(alloc, &reviewed, out)
 }
 
-/// The page of a task with a certificate.
-#[tactic(auto, using(crate::proofs::Refused::says_verdict, crate::proofs::Refused::verdict_done))]
-fn write_checked<'a, 'n, W: Out>(
+/// Writes the page of texts that are judged.
+fn write_judged<'a, 'n, W: Out>(
     alloc: Global,
     task_name: &'n str,
     cert_name: &'n str,
     file: &'n [u8],
-    cert: &[u8],
+    judged: &'n Judged,
     out: &mut W,
-) -> Result<u8, Fault<'a>>
+) -> Result<(), Fault<'a>>
     requires { W.faults out.old < 2 ^ 64 - 1 }
-    ensures says { IfOk result (λ status. SaysChecked status file.now cert.now) }
-    ensures done { IfOk result (λ status. is_done_status status ≡ true) }
 {
-    let checked = check_texts(alloc, file, cert)?;
-    let claim = &checked.claim;
+    let claim = &judged.checked.claim;
     let texts = texts_of_file(alloc, file, &claim.task)?;
-    let expanded = expand(alloc, &claim.task, &claim.cert)?;
-    let findings = all_findings(alloc, &claim.task, &claim.cert)?;
-    let status = status_of_verdict(checked.verdict);
-    let scene = Scene::new(file, &texts, &claim.task, &expanded);
-    write_given(alloc, task_name, cert_name, scene, &findings, out)?;
-    Ok(status)
+    let scene = Scene::new(file, &texts, &claim.task, &judged.known.expanded);
+    write_given(alloc, task_name, cert_name, scene, &judged.known, out)
 }
 
 /// Writes the page of a task by bounds that are known, and with an outcome.
@@ -110,6 +100,27 @@ fn write_known<'a, 'n, W: Out>(
     write_page(alloc, &reviewed, out)
 }
 
+/// The page of a task with a run in which attackers break something.
+fn write_attack<'a, W: Out>(
+    alloc: Global,
+    name: &str,
+    file: &[u8],
+    task: &Task,
+    known: &KnownBounds,
+    found: &FoundAttack<'_>,
+    out: &mut W,
+) -> Result<(), Fault<'a>>
+    requires { W.faults out.old < 2 ^ 64 - 1 }
+{
+    let played = played_moves(alloc, &found.moves)?;
+    let outcome = Outcome::Attacked {
+        breach: &found.breach,
+        detail: &found.detail,
+        played: &played,
+    };
+    write_known(alloc, name, file, task, known, outcome, out)
+}
+
 /// The page of a task for which no certificate is found: with the run that breaks something, if one is found.
 fn write_unfound<'a, W: Out, P: Watcher>(
     alloc: Global,
@@ -134,20 +145,7 @@ fn write_unfound<'a, W: Out, P: Watcher>(
         Explored::Breaks(found) => {
             write_known(alloc, name, file, task, known, Outcome::Broken(&found), out)
         }
-        Explored::Attacked(found) => {
-            write_known(
-                alloc,
-                name,
-                file,
-                task,
-                known,
-                Outcome::Attacked {
-                    breach: &found.breach,
-                    detail: &found.detail,
-                },
-                out,
-            )
-        }
+        Explored::Attacked(found) => { write_attack(alloc, name, file, task, known, &found, out) }
         Explored::Ended(_) | Explored::Bounded(_) => {
             write_known(alloc, name, file, task, known, Outcome::Undecided, out)
         }
@@ -190,7 +188,9 @@ pub(crate) fn answer_checked_page<'a, S: Source, W: Out>(
 {
     let task_text = files.fetch(task)?;
     let cert_text = files.fetch(cert)?;
-    write_checked(alloc, task, cert, &task_text, &cert_text, out)
+    let judged = judge_texts(alloc, &task_text, &cert_text)?;
+    write_judged(alloc, task, cert, &task_text, &judged, out)?;
+    Ok(judged.status)
 }
 
 /// Writes the page of a task alone.

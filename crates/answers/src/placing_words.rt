@@ -4,7 +4,8 @@ ghost use Rattle.std.specs.Prelude.{◌≡◌, ◌++◌, IfOk, OnOk, is_some, ma
 ghost use Rattle.std.specs.List.{list_all};
 ghost use Rattle.follow.specs.Views.{placings_of};
 ghost use Rattle.answers.specs.PlacingViews.{placing_seen};
-ghost use Rattle.answers.specs.PlacingWords.{is_absolute, listed, placed_by, placing_in, placings_in, without_slash};
+ghost use Rattle.lookup.specs.Paths.{is_absolute};
+ghost use Rattle.answers.specs.PlacingWords.{listed, placed_by, placing_in, placings_in, without_slash};
 
 use follow::Placing;
 use rights::Memory;

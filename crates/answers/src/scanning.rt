@@ -5,12 +5,11 @@ ghost use Rattle.certificate.specs.Bounds.{Certificate};
 ghost use Rattle.checker.specs.Verdicts.{IsAccepted};
 ghost use Rattle.console.specs.Statuses.{is_done_status};
 ghost use Rattle.searcher.specs.Flat.{flat};
-ghost use Rattle.answers.specs.Answered.{SaysChecked, SaysOfChecked, SaysOfSearch};
+ghost use Rattle.answers.specs.Answered.{SaysChecked, SaysNoTask, SaysOfChecked, SaysOfSearch};
 
-use crate::known_bounds::known_bounds;
-use checker::{all_findings, expand};
+use crate::known_bounds::{KnownBounds, judge_texts, known_bounds};
 use console::statuses::{BROKEN, DONE};
-use console::{Fault, Source, status_of_verdict, words_of};
+use console::{Fault, Source, words_of};
 use explain::Scene;
 use rights::{Out, write_all};
 use sarif::{Log, log_text};
@@ -19,7 +18,6 @@ use task::Task;
 use task_log::{Found, log_of_faults, log_of_task};
 use task_reader::{TaskFault, read_task};
 use task_text::texts_of_file;
-use text_checker::check_texts;
 
 /// Writes a log, and a line's end.
 fn write_log<'a, W: Out>(alloc: Global, log: &Log<'_>, out: &mut W) -> Result<(), Fault<'a>>
@@ -31,12 +29,33 @@ fn write_log<'a, W: Out>(alloc: Global, log: &Log<'_>, out: &mut W) -> Result<()
     Ok(())
 }
 
-/// Writes the log of a task with a certificate.
-#[tactic(auto, using(crate::proofs::Refused::says_verdict, crate::proofs::Refused::verdict_done))]
-fn write_checked<'a, 'n, W: Out>(
+/// Writes the log of a task by bounds that are known.
+fn write_found<'a, 'n, W: Out>(
     alloc: Global,
     name: &'n str,
     file: &'n [u8],
+    task: &'n Task,
+    known: &'n KnownBounds,
+    out: &mut W,
+) -> Result<(), Fault<'a>>
+    requires { W.faults out.old < 2 ^ 64 - 1 }
+{
+    let texts = texts_of_file(alloc, file, task)?;
+    let found = Found {
+        file: name.as_bytes(),
+        scene: Scene::new(file, &texts, task, &known.expanded),
+        has_cert: known.has_bounds,
+        bounds: &known.expanded,
+        broken: &known.findings,
+    };
+    write_log(alloc, &log_of_task(alloc, &found)?, out)
+}
+
+/// Writes the log of a task with a certificate.
+fn write_checked<'a, W: Out>(
+    alloc: Global,
+    name: &str,
+    file: &[u8],
     cert: &[u8],
     out: &mut W,
 ) -> Result<u8, Fault<'a>>
@@ -44,20 +63,16 @@ fn write_checked<'a, 'n, W: Out>(
     ensures says { IfOk result (λ status. SaysChecked status file.now cert.now) }
     ensures done { IfOk result (λ status. is_done_status status ≡ true) }
 {
-    let checked = check_texts(alloc, file, cert)?;
-    let claim = &checked.claim;
-    let texts = texts_of_file(alloc, file, &claim.task)?;
-    let expanded = expand(alloc, &claim.task, &claim.cert)?;
-    let broken = all_findings(alloc, &claim.task, &claim.cert)?;
-    let found = Found {
-        file: name.as_bytes(),
-        scene: Scene::new(file, &texts, &claim.task, &expanded),
-        has_cert: true,
-        bounds: &expanded,
-        broken: &broken,
-    };
-    write_log(alloc, &log_of_task(alloc, &found)?, out)?;
-    Ok(status_of_verdict(checked.verdict))
+    let judged = judge_texts(alloc, file, cert)?;
+    write_found(
+        alloc,
+        name,
+        file,
+        &judged.checked.claim.task,
+        &judged.known,
+        out,
+    )?;
+    Ok(judged.status)
 }
 
 /// Writes the log of a text that is no task's: its faults.
@@ -76,11 +91,11 @@ fn write_faults<'a, W: Out>(
 }
 
 /// Writes the log of a task alone: of the certificate that is found, or of the bounds that the search reached.
-fn write_task<'a, 'n, W: Out>(
+fn write_task<'a, W: Out>(
     alloc: Global,
-    name: &'n str,
-    file: &'n [u8],
-    task: &'n Task,
+    name: &str,
+    file: &[u8],
+    task: &Task,
     out: &mut W,
 ) -> Result<u8, Fault<'a>>
     requires { W.faults out.old < 2 ^ 64 - 1 }
@@ -88,20 +103,13 @@ fn write_task<'a, 'n, W: Out>(
     ensures unfound { IfOk result (λ status. status ≡ 1 → (bounds : Certificate) → flat task.now ≡ Some bounds → IsAccepted task.now bounds → ⊥) }
     ensures done { IfOk result (λ status. is_done_status status ≡ true) }
 {
-    let texts = texts_of_file(alloc, file, task)?;
     let known = known_bounds(alloc, task)?;
-    let found = Found {
-        file: name.as_bytes(),
-        scene: Scene::new(file, &texts, task, &known.expanded),
-        has_cert: known.has_bounds,
-        bounds: &known.expanded,
-        broken: &known.findings,
-    };
-    write_log(alloc, &log_of_task(alloc, &found)?, out)?;
+    write_found(alloc, name, file, task, &known, out)?;
     Ok(if known.is_accepted { DONE } else { BROKEN })
 }
 
 /// Writes the log of a task's text alone; of one that is no task's its faults.
+#[tactic(auto, using(explain::proofs::Refused::refused_text))]
 pub(crate) fn answer_log<'a, S: Source, W: Out>(
     alloc: Global,
     files: &mut S,
@@ -109,7 +117,7 @@ pub(crate) fn answer_log<'a, S: Source, W: Out>(
     out: &mut W,
 ) -> Result<u8, Fault<'a>>
     requires { W.faults out.old < 2 ^ 64 - 1 }
-    ensures says { IfOk result (λ status. SaysOfSearch (S.files files.old) task.now status ⊎ (status ≡ 1)) }
+    ensures says { IfOk result (λ status. SaysOfSearch (S.files files.old) task.now status ⊎ SaysNoTask (S.files files.old) task.now status) }
     ensures done { IfOk result (λ status. is_done_status status ≡ true) }
 {
     let text = files.fetch(task)?;
@@ -124,6 +132,7 @@ pub(crate) fn answer_log<'a, S: Source, W: Out>(
 }
 
 /// Writes the log of a task with a certificate; of a text that is no task's its faults, whatever the certificate.
+#[tactic(auto, using(explain::proofs::Refused::refused_text))]
 pub(crate) fn answer_checked_log<'a, S: Source, W: Out>(
     alloc: Global,
     files: &mut S,
@@ -132,7 +141,7 @@ pub(crate) fn answer_checked_log<'a, S: Source, W: Out>(
     out: &mut W,
 ) -> Result<u8, Fault<'a>>
     requires { W.faults out.old < 2 ^ 64 - 1 }
-    ensures says { IfOk result (λ status. SaysOfChecked (S.files files.old) task.now cert.now status ⊎ (status ≡ 1)) }
+    ensures says { IfOk result (λ status. SaysOfChecked (S.files files.old) task.now cert.now status ⊎ SaysNoTask (S.files files.old) task.now status) }
     ensures done { IfOk result (λ status. is_done_status status ≡ true) }
 {
     let text = files.fetch(task)?;

@@ -17,5 +17,5 @@ capwhy text TASK             where the faults of a task's text are
 capwhy calls RECORD          the calls of a record of strace -f
 capwhy follow TASK CALLS [REAL=MODEL ..]
                              whether recorded calls follow a task, whose places lie at MODEL where the record has REAL
-capwhy --help                this text, of version 1.6
+capwhy --help                this text, of version 1.7
 ";

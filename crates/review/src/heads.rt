@@ -180,7 +180,7 @@ fn breach_lead(room: &mut Room, reviewed: &Reviewed<'_>) -> Vec<Piece> {
             say!(&mut page; "Its last step: ");
             explore::add_breach(&mut page, &found.breach, &found.detail)
         }
-        Outcome::Attacked { breach, detail } => {
+        Outcome::Attacked { breach, detail, .. } => {
             say!(&mut page; "An untrusted program does what it likes there. The last step: ");
             explore::add_breach(&mut page, breach, detail)
         }

@@ -4,6 +4,7 @@
 
 mod changes;
 mod columns;
+pub mod deeds;
 mod heads;
 mod holdings;
 mod listings;
@@ -11,6 +12,7 @@ mod matrices;
 mod messages;
 mod panels;
 mod pictures;
+pub mod played;
 mod points;
 mod room;
 mod runs;
@@ -18,5 +20,7 @@ pub mod sheets;
 mod uses;
 pub mod views;
 
+pub use deeds::add_deed;
+pub use played::{Played, played_moves};
 pub use sheets::sheet_of;
 pub use views::{Outcome, Reviewed};

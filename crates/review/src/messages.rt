@@ -104,19 +104,29 @@ fn end_of(
     }
 }
 
-/// The call at which a process stands.
-fn call_of<'t>(task: &'t Task, process: &Process) -> Option<&'t Syscall> {
-    let named = task.programs().get(usize::from(process.program))?;
-    match named.program.code().get(usize::from(process.point)) {
-        Some(Instruction::Invoke { call, .. }) => Some(call),
+/// The call of an instruction, if it is one.
+pub(crate) fn call_in(instruction: &Instruction) -> Option<&Syscall> {
+    match instruction {
+        Instruction::Invoke { call, .. } => Some(call),
         _ => None,
     }
 }
 
-/// What a process does with a queue, if its next call succeeds.
-fn next_traffic(task: &Task, machine: &Machine<'_, LinkTree>, number: u8) -> Option<Traffic> {
+/// The call at which a process stands, if it stands at one.
+pub(crate) fn next_call<'t>(
+    task: &'t Task,
+    machine: &Machine<'_, LinkTree>,
+    number: u8,
+) -> Option<&'t Syscall> {
     let process = machine.processes().get(usize::from(number))?;
-    let (operand, sends, carries) = match call_of(task, process)? {
+    let named = task.programs().get(usize::from(process.program))?;
+    call_in(named.program.code().get(usize::from(process.point))?)
+}
+
+/// What a process does with a queue by a call that succeeds, if it does something.
+fn queue_traffic(machine: &Machine<'_, LinkTree>, number: u8, call: &Syscall) -> Option<Traffic> {
+    let process = machine.processes().get(usize::from(number))?;
+    let (operand, sends, carries) = match call {
         Syscall::Write { descriptor, .. } => (*descriptor, true, false),
         Syscall::Sendfd { descriptor, .. } => (*descriptor, true, true),
         Syscall::Read { descriptor } => (*descriptor, false, false),
@@ -131,7 +141,7 @@ fn next_traffic(task: &Task, machine: &Machine<'_, LinkTree>, number: u8) -> Opt
     })
 }
 
-/// What a process does with a queue, if its next call succeeds; nothing where that goes through no end.
-pub(crate) fn traffic_of(task: &Task, machine: &Machine<'_, LinkTree>, number: u8) -> Traffic {
-    next_traffic(task, machine, number).unwrap_or(Traffic::Nothing)
+/// What a process does with a queue by a call that succeeds; nothing where that goes through no end.
+pub(crate) fn traffic_of(machine: &Machine<'_, LinkTree>, number: u8, call: &Syscall) -> Traffic {
+    queue_traffic(machine, number, call).unwrap_or(Traffic::Nothing)
 }

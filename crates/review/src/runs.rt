@@ -1,15 +1,18 @@
 //! The run that breaks something, step by step.
 
+use crate::deeds::add_deed;
 use crate::listings::tail_begin;
-use crate::messages::{Queues, Traffic, traffic_of};
+use crate::messages::{Queues, Traffic, call_in, next_call, traffic_of};
+use crate::played::Played;
 use crate::room::{Room, short};
 use crate::views::Reviewed;
-use explore::FoundRun;
+use explore::{Breach, Deed};
+use instruction_set::Syscall;
 use link_tree::LinkTree;
-use page::{Lane, Message, Place, Run, Step};
+use page::{Lane, Message, Piece, Place, Run, Step};
+use rights::limits::REGISTERS;
 use rights::{Memory, Stop};
-use simulator::{Acted, LineResult, Machine};
-use syscalls::Event;
+use simulator::{Acted, Line, LineResult, Machine};
 use task::Task;
 use texts::{Page, parts_of, say};
 
@@ -21,6 +24,8 @@ const MAX_STEPS: usize = 256;
 struct Acting {
     process: u8,
     acted: Acted,
+    /// What an attacker does in it.
+    deed: Option<Vec<u8>>,
     /// Whether it was in the mode before.
     is_inside: bool,
     /// Whether it is in the mode behind it.
@@ -53,13 +58,39 @@ struct Before {
     traffic: Traffic,
 }
 
+/// What an attacker's process is at, in the words of a program, until its call is done.
+#[derive(Drop)]
+struct Doing {
+    process: u8,
+    words: Vec<u8>,
+}
+
 /// A machine that shows what it does.
 #[derive(Drop)]
 struct Player<'a> {
     task: &'a Task,
     machine: Machine<'a, LinkTree>,
     queues: Queues,
+    doings: Vec<Doing>,
     steps: Vec<Acting>,
+}
+
+/// A deed in the words of a program.
+fn deed_words(room: &mut Room, deed: &Deed) -> Vec<u8> {
+    let mut page = Page::new(room.alloc());
+    add_deed(&mut page, deed);
+    room.bytes(page)
+}
+
+/// One step by a move.
+fn step_by(machine: &mut Machine<'_, LinkTree>, played: &Played) -> Result<Line, Stop> {
+    let Some(deed) = &played.deed else {
+        return machine.step(played.event);
+    };
+    if !machine.may_stand_at(played.event.process, 0) {
+        return Err(Stop::Spent);
+    }
+    machine.step_as(played.event, deed.instruction(), [0; REGISTERS], 0)
 }
 
 impl<'a> Player<'a> {
@@ -71,15 +102,44 @@ impl<'a> Player<'a> {
         }
     }
 
-    /// Does an event, and keeps its step if it is shown.
-    fn play(&mut self, room: &mut Room, event: Event) -> Result<(), Stop> {
-        let before = Before {
-            process: event.process,
-            is_inside: self.is_inside(event.process),
-            processes: self.machine.processes().len(),
-            traffic: traffic_of(self.task, &self.machine, event.process),
+    /// Takes what an attacker's process is at, if it is at something.
+    fn take_doing(&mut self, process: u8) -> Option<Vec<u8>> {
+        let place = self
+            .doings
+            .iter()
+            .position(|doing| doing.process == process)?;
+        let doing = self.doings.remove(place);
+        Some(doing.words)
+    }
+
+    /// What a process does with a queue, if the call of its move succeeds.
+    fn traffic(&self, played: &Played) -> Traffic {
+        let process = played.event.process;
+        let call: Option<&Syscall> = match &played.deed {
+            Some(deed) => call_in(deed.instruction()),
+            None if self.doings.iter().any(|doing| doing.process == process) => None,
+            None => next_call(self.task, &self.machine, process),
         };
-        let line = self.machine.step(event)?;
+        match call {
+            Some(call) => traffic_of(&self.machine, process, call),
+            None => Traffic::Nothing,
+        }
+    }
+
+    /// Does a move, and keeps its step if it is shown.
+    fn play(&mut self, room: &mut Room, played: &Played) -> Result<(), Stop> {
+        let process = played.event.process;
+        let before = Before {
+            process,
+            is_inside: self.is_inside(process),
+            processes: self.machine.processes().len(),
+            traffic: self.traffic(played),
+        };
+        if let Some(deed) = &played.deed {
+            let words = deed_words(room, deed);
+            room.push(&mut self.doings, Doing { process, words });
+        }
+        let line = step_by(&mut self.machine, played)?;
         match line.acted {
             None => {}
             Some(acted) => self.keep(room, before, acted),
@@ -90,6 +150,10 @@ impl<'a> Player<'a> {
     /// Keeps what a process did, if it is shown.
     fn keep(&mut self, room: &mut Room, before: Before, acted: Acted) {
         let outcome = acted.outcome;
+        if outcome == LineResult::Walking {
+            return;
+        }
+        let deed = self.take_doing(before.process);
         if !is_shown(outcome) {
             return;
         }
@@ -104,6 +168,7 @@ impl<'a> Player<'a> {
         let step = Acting {
             process: before.process,
             acted,
+            deed,
             is_inside: before.is_inside,
             stays_inside: self.is_inside(before.process),
             made: if has_made {
@@ -119,7 +184,7 @@ impl<'a> Player<'a> {
 }
 
 /// The steps of a run.
-fn steps_of(room: &mut Room, task: &Task, events: &[Event]) -> Result<Vec<Acting>, Memory> {
+fn steps_of(room: &mut Room, task: &Task, moves: &[Played]) -> Result<Vec<Acting>, Memory> {
     let Ok(machine) = Machine::start(room.alloc(), task) else {
         return Err(Memory);
     };
@@ -127,10 +192,11 @@ fn steps_of(room: &mut Room, task: &Task, events: &[Event]) -> Result<Vec<Acting
         task,
         machine,
         queues: Queues::new(room),
+        doings: room.list(),
         steps: room.list(),
     };
-    for event in events {
-        if player.play(room, *event).is_err() {
+    for played in moves {
+        if player.play(room, played).is_err() {
             return Err(Memory);
         }
     }
@@ -195,6 +261,14 @@ fn deed_text(room: &mut Room, step: &Acting) -> Vec<u8> {
     room.bytes(page)
 }
 
+/// The instruction of a step, as it is written or as an attacker does it, and what stands behind it.
+fn instruction_texts<'s>(step: &'s Acting, written: &'s [u8]) -> (&'s [u8], &'s [u8]) {
+    match &step.deed {
+        Some(words) => (words.as_slice(), b" by an attacker".as_slice()),
+        None => written.split_at(tail_begin(written)),
+    }
+}
+
 /// A message whose step is shown, among those from one on.
 fn shown_message(message: Message, first: usize) -> Option<Message> {
     let sent_at = message.sent_at.checked_sub(first)?;
@@ -218,7 +292,7 @@ fn shown_step(
         .programs()
         .get(usize::from(step.acted.program))?;
     let written = reviewed.scene.written(step.acted.program, step.acted.point);
-    let (text, tail) = written.text.split_at(tail_begin(written.text));
+    let (text, tail) = instruction_texts(step, written.text);
     let made = step.made.and_then(|made| processes.iter().position(|process| *process == made));
     Some(Step {
         lane: processes
@@ -240,13 +314,22 @@ fn shown_step(
     })
 }
 
-/// The run that breaks something, as a page shows it.
+/// What a run breaks at its last step.
+pub(crate) fn end_of(room: &mut Room, breach: &Breach, detail: &[u8]) -> Vec<Piece> {
+    let mut page = Page::new(room.alloc());
+    explore::add_breach(&mut page, breach, detail);
+    let end = room.bytes(page);
+    room.sentence(end.strip_suffix(b"\n".as_slice()).unwrap_or(&end))
+}
+
+/// The run that breaks something, as a page shows it, with what it breaks.
 pub(crate) fn run_of(
     room: &mut Room,
     reviewed: &Reviewed<'_>,
-    found: &FoundRun,
+    moves: &[Played],
+    end: Vec<Piece>,
 ) -> Result<Run, Memory> {
-    let all = steps_of(room, reviewed.scene.task, &found.events)?;
+    let all = steps_of(room, reviewed.scene.task, moves)?;
     let first = all.len().saturating_sub(MAX_STEPS);
     let last = all.get(first..).unwrap_or(&[]);
     let processes = acting_processes(room, last);
@@ -260,13 +343,10 @@ pub(crate) fn run_of(
             room.push(&mut steps, step);
         }
     }
-    let mut end = Page::new(room.alloc());
-    explore::add_breach(&mut end, &found.breach, &found.detail);
-    let end = room.bytes(end);
     Ok(Run {
         lanes,
         steps,
         left_out: u32::try_from(first).unwrap_or(u32::MAX),
-        end: room.sentence(end.strip_suffix(b"\n".as_slice()).unwrap_or(&end)),
+        end,
     })
 }

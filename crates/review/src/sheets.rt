@@ -4,8 +4,9 @@ use crate::heads::header_of;
 use crate::listings::listings_of;
 use crate::matrices::matrix_of;
 use crate::pictures::picture_of;
+use crate::played::played_events;
 use crate::room::Room;
-use crate::runs::run_of;
+use crate::runs::{end_of, run_of};
 use crate::views::{Outcome, Reviewed, views_of};
 use checker::rule::RULES;
 use explain::{rule_advice, rule_title, rule_words};
@@ -30,13 +31,23 @@ fn broken_rules(room: &mut Room, reviewed: &Reviewed<'_>) -> Vec<RuleText> {
     rules
 }
 
-/// The run that breaks something, if one is found. One in which untrusted programs do what they like isn't drawn: they don't do what stands in the listing.
+/// The run that breaks something, if one is found.
 fn found_run(room: &mut Room, reviewed: &Reviewed<'_>) -> Result<Option<Run>, Memory> {
     match reviewed.outcome {
-        Outcome::Broken(found) => Ok(Some(run_of(room, reviewed, found)?)),
-        Outcome::Attacked { .. } | Outcome::Accepted | Outcome::Refused | Outcome::Undecided => Ok(
-            None,
-        ),
+        Outcome::Broken(found) => {
+            let played = played_events(room, &found.events);
+            let end = end_of(room, &found.breach, &found.detail);
+            Ok(Some(run_of(room, reviewed, &played, end)?))
+        }
+        Outcome::Attacked {
+            breach,
+            detail,
+            played,
+        } => {
+            let end = end_of(room, breach, detail);
+            Ok(Some(run_of(room, reviewed, played, end)?))
+        }
+        Outcome::Accepted | Outcome::Refused | Outcome::Undecided => Ok(None),
     }
 }
 

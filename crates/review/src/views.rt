@@ -1,5 +1,6 @@
 //! What a page is made of: a task with bounds of its points, and what there is to say of it.
 
+use crate::played::Played;
 use crate::room::{Room, short};
 use certificate::{Bound, ModeBound};
 use checker::BrokenRule;
@@ -24,6 +25,7 @@ pub enum Outcome<'a> {
         breach: &'a Breach,
         /// What stands behind the words of the breach.
         detail: &'a [u8],
+        played: &'a [Played],
     },
 }
 

@@ -114,7 +114,7 @@ fn add_operands(page: &mut Page, call: &Syscall) {
 }
 
 /// Adds the call of a deed with its operands, as a program has it in front of `else`.
-pub(crate) fn add_deed(page: &mut Page, deed: &Deed) {
+pub fn add_deed(page: &mut Page, deed: &Deed) {
     if let Instruction::Invoke { call, .. } = deed.instruction() {
         call.call().name().say(page);
         add_operands(page, call);

@@ -1,0 +1,45 @@
+//! The moves of a run, as they are played again.
+
+use crate::room::Room;
+use explore::{Deed, Move};
+use rights::Memory;
+use std::alloc::Global;
+use syscalls::Event;
+
+/// A move of a run: an event, and what its process does at it in place of what its program has, if it is an attacker's.
+#[derive(Drop)]
+pub struct Played {
+    pub event: Event,
+    pub deed: Option<Deed>,
+}
+
+/// A move.
+fn played_move(alloc: Global, next: &Move<'_>) -> Result<Played, Memory> {
+    let deed = match next.deed {
+        Some(deed) => Some(Deed::new(alloc, deed.instruction())?),
+        None => None,
+    };
+    Ok(Played {
+        event: next.event,
+        deed,
+    })
+}
+
+/// Moves of a run that was found. Want of memory is the only error.
+pub fn played_moves(alloc: Global, moves: &[Move<'_>]) -> Result<Vec<Played>, Memory> {
+    let mut all = Vec::new(alloc);
+    for next in moves {
+        all.push(played_move(alloc, next)?)?;
+    }
+    Ok(all)
+}
+
+/// Events at which each process does what its program has.
+pub(crate) fn played_events(room: &mut Room, events: &[Event]) -> Vec<Played> {
+    let mut all = room.list();
+    for event in events {
+        let event = *event;
+        room.push(&mut all, Played { event, deed: None });
+    }
+    all
+}
