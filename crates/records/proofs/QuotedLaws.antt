@@ -1,13 +1,16 @@
 -- A quoted text is read as its bytes.
 use Rattle.std.proofs.Common.{◌≡◌, ℕ, ◌/◌, ◌%◌, ◌^◌, ◌<◌, Bool, true, false, not, cond, List, [], ◌∷◌, ◌++◌, refl, ap, sym, ◌∙◌, append_assoc, append-nil, ltb-true, arith}
-use Rattle.std.proofs.Common.{◌+◌, length, drop, get_or, add-one, drop-cons}
-use Rattle.std.specs.Prelude.{◌==◌, ◌&&◌, nat_le, nat_lt, Option, Some}
+use Rattle.std.proofs.Common.{zero, suc, ◌+◌, length, drop, get_or, add-one, drop-cons}
+use Rattle.std.specs.Prelude.{◌==◌, ◌&&◌, ◌≤◌, nat_le, nat_lt, Option, Some, None}
 use Rattle.std.specs.List.{flat_map}
 use Rattle.std.proofs.lemmas.Bool.{and_parts}
 use Rattle.texts.specs.Hex.{hex_digit, hex_text}
 use Rattle.texts.proofs.HexTexts.{hex-back}
 use Rattle.records.specs.Calls.{is_text}
-use Rattle.records.specs.Quoted.{QuoteEffect, QuoteProgress, Within, Escaped, Halfway, Behind, Leads, Gives, Stops, byte_text, effect, given_byte, going, is_plain, quoted, unquoted, unquoted_from}
+use Rattle.records.specs.declared.quoting.Progress.{Progress as ProgressCode}
+use Rattle.records.specs.declared.quoting.Progress.TheVariants as code
+use Rattle.records.specs.QuotedViews.{progress_seen}
+use Rattle.records.specs.Quoted.{QuoteEffect, QuoteProgress, Within, Escaped, Halfway, Behind, Leads, Gives, Stops, byte_text, effect, given_byte, going, if_closed, is_plain, quoted, unquoted, unquoted_from}
 
 -- a plain byte gives itself
 plain-effect : (b : ℕ) → is_plain b ≡ true → effect Within b ≡ Gives b
@@ -64,3 +67,32 @@ pub byte-goes : (word : List ℕ) (i : ℕ) (bytes next : List ℕ) (progress af
 byte-goes word i bytes next progress after f whole within before is goes =
     let left = drop-cons word i 0 within ∙ ap (λ n. get_or word i 0 ∷ drop n word) (sym (add-one i)) in
     sym goes ∙ sym (ap (λ e. going e bytes (unquoted_from (drop (i + 1) word))) is) ∙ sym (ap (λ l. unquoted_from l bytes progress) left) ∙ before
+
+-- a byte that may not stand there
+pub byte-stops : (word : List ℕ) (i : ℕ) (bytes : List ℕ) (progress : QuoteProgress) (whole : Option (List ℕ)) → i < length word
+    → unquoted_from (drop i word) bytes progress ≡ whole → effect progress (get_or word i 0) ≡ Stops → whole ≡ None
+byte-stops word i bytes progress whole within before stops =
+    let rest = unquoted_from (drop (i + 1) word) in
+    sym before
+    ∙ ap (λ l. unquoted_from l bytes progress) (drop-cons word i 0 within ∙ ap (λ n. get_or word i 0 ∷ drop n word) (sym (add-one i)))
+    ∙ ap (λ e. going e bytes rest) stops
+
+nothing-left : (word : List ℕ) (i : ℕ) → length word ≤ i → drop i word ≡ []
+nothing-left [] zero past = refl
+nothing-left [] (suc i) past = refl
+nothing-left (b ∷ word) zero past = absurd (omega arith)
+nothing-left (b ∷ word) (suc i) past = nothing-left word i (omega arith)
+
+not-closed : (bytes : List ℕ) (progress : ProgressCode) → (progress ≡ code.Behind → ⊥) → if_closed bytes (progress_seen progress) ≡ None
+not-closed bytes code.Before unclosed = refl
+not-closed bytes code.Within unclosed = refl
+not-closed bytes code.Escaped unclosed = refl
+not-closed bytes code.Lettered unclosed = refl
+not-closed bytes (code.Halfway digit) unclosed = refl
+not-closed bytes code.Behind unclosed = absurd (unclosed refl)
+
+-- a text that ends before its last quote
+pub ends-open : (word : List ℕ) (i : ℕ) (bytes : List ℕ) (progress : ProgressCode) (whole : Option (List ℕ)) → length word ≤ i → (progress ≡ code.Behind → ⊥)
+    → unquoted_from (drop i word) bytes (progress_seen progress) ≡ whole → whole ≡ None
+ends-open word i bytes progress whole past unclosed before =
+    sym before ∙ ap (λ l. unquoted_from l bytes (progress_seen progress)) (nothing-left word i past) ∙ not-closed bytes progress unclosed

@@ -7,7 +7,7 @@ ghost use Rattle.texts.specs.Parts.{joined};
 use std::alloc::{AllocError, Global};
 
 /// Where a byte stands, of text and strings.
-#[derive(Clone, Copy, PartialEq, Eq)]
+#[derive(Clone, Copy)]
 enum Place {
     Plain,
     /// In a string in quotes.
@@ -41,7 +41,7 @@ impl Depth {
 
     /// Whether the byte belongs to no string, bracket or note.
     fn is_top(self) -> bool {
-        self.brackets == 0 && self.notes == 0 && self.place == Place::Plain
+        self.brackets == 0 && self.notes == 0 && matches!(self.place, Place::Plain)
     }
 
     /// So many brackets, behind a plain byte outside notes.

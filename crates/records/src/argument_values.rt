@@ -48,15 +48,10 @@ pub(crate) fn inside(note: &[u8]) -> &[u8] {
     before(rest, b">").unwrap_or(rest)
 }
 
-/// Whether a descriptor's number may end before this text.
-fn ends_number(text: &[u8]) -> bool {
-    matches!(text, [] | [b'<' | b']' | b'}' | b',' | b' ', ..])
-}
-
 /// The descriptor that a text begins with, if it begins with one.
 pub(crate) fn first_of(text: &[u8]) -> Option<First<'_>> {
     let (digits, behind) = text.split_at(digits_end(text));
-    if !ends_number(behind) {
+    if !matches!(behind, [] | [b'<' | b']' | b'}' | b',' | b' ', ..]) {
         return None;
     }
     let (note, behind) = behind.split_at(first_note_end(behind));
@@ -127,20 +122,20 @@ pub(crate) fn has_word(text: &[u8], word: &[u8]) -> bool {
 }
 
 /// The flags by which a descriptor is made that is closed where the process goes on as another program.
-const CLOSES_ON_EXEC: [&str; 7] = [
-    "SOCK_CLOEXEC",
-    "EPOLL_CLOEXEC",
-    "EFD_CLOEXEC",
-    "TFD_CLOEXEC",
-    "IN_CLOEXEC",
-    "SFD_CLOEXEC",
-    "MFD_CLOEXEC",
+const CLOSES_ON_EXEC: [&[u8]; 7] = [
+    b"SOCK_CLOEXEC",
+    b"EPOLL_CLOEXEC",
+    b"EFD_CLOEXEC",
+    b"TFD_CLOEXEC",
+    b"IN_CLOEXEC",
+    b"SFD_CLOEXEC",
+    b"MFD_CLOEXEC",
 ];
 
 /// Whether arguments have a flag by which a descriptor is closed where the process goes on as another program.
 pub(crate) fn closes_on_exec(arguments: &[u8]) -> bool {
     for flag in &CLOSES_ON_EXEC {
-        if has_word(arguments, flag.as_bytes()) {
+        if has_word(arguments, flag) {
             return true;
         }
     }
@@ -163,13 +158,9 @@ pub(crate) fn is_device(note: &[u8]) -> bool {
     behind(note, b"<char ").is_some() || behind(note, b"<block ").is_some()
 }
 
-/// The number that a text begins with, if 32 bits hold it.
-fn first_number(text: &[u8]) -> Option<u32> {
-    let (digits, _behind) = text.split_at(digits_end(text));
-    number(digits)
-}
-
 /// The number of a socket's end in a note such as `UNIX-STREAM:[42->43]`, if 32 bits hold it.
 pub(crate) fn socket_inode(note: &[u8]) -> Option<u32> {
-    first_number(behind(after(note, b"UNIX")?, b":[")?)
+    let inode = behind(after(note, b"UNIX")?, b":[")?;
+    let (digits, _behind) = inode.split_at(digits_end(inode));
+    number(digits)
 }

@@ -140,28 +140,28 @@ enum Command {
 }
 
 /// The fcntl commands that are known.
-const COMMANDS: [(&str, Command); 15] = [
-    ("F_GETFL", Command::Flags),
-    ("F_SETFL", Command::NewFlags),
-    ("F_DUPFD", Command::Duplicate),
-    ("F_DUPFD_CLOEXEC", Command::DuplicateClosing),
-    ("F_SETFD", Command::Closing),
-    ("F_GETFD", Command::Nothing),
-    ("F_SETLK", Command::Lock),
-    ("F_SETLKW", Command::Lock),
-    ("F_GETLK", Command::Lock),
-    ("F_OFD_SETLK", Command::Lock),
-    ("F_OFD_SETLKW", Command::Lock),
-    ("F_OFD_GETLK", Command::Lock),
-    ("F_SETLK64", Command::Lock),
-    ("F_SETLKW64", Command::Lock),
-    ("F_GETLK64", Command::Lock),
+const COMMANDS: [(&[u8], Command); 15] = [
+    (b"F_GETFL", Command::Flags),
+    (b"F_SETFL", Command::NewFlags),
+    (b"F_DUPFD", Command::Duplicate),
+    (b"F_DUPFD_CLOEXEC", Command::DuplicateClosing),
+    (b"F_SETFD", Command::Closing),
+    (b"F_GETFD", Command::Nothing),
+    (b"F_SETLK", Command::Lock),
+    (b"F_SETLKW", Command::Lock),
+    (b"F_GETLK", Command::Lock),
+    (b"F_OFD_SETLK", Command::Lock),
+    (b"F_OFD_SETLKW", Command::Lock),
+    (b"F_OFD_GETLK", Command::Lock),
+    (b"F_SETLK64", Command::Lock),
+    (b"F_SETLKW64", Command::Lock),
+    (b"F_GETLK64", Command::Lock),
 ];
 
 /// The first of these commands that an argument names.
-fn command_among(commands: &[(&str, Command)], argument: &[u8]) -> Option<Command> {
+fn command_among(commands: &[(&[u8], Command)], argument: &[u8]) -> Option<Command> {
     for (name, command) in commands {
-        if has_word(argument, name.as_bytes()) {
+        if has_word(argument, name) {
             return Some(*command);
         }
     }

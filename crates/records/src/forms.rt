@@ -106,8 +106,8 @@ pub(crate) enum Form {
 }
 
 /// The calls that have nothing to do with files or descriptors.
-const QUIET: &str =
-    "brk mprotect munmap mremap madvise mincore msync mlock mlock2 munlock mlockall munlockall membarrier pkey_mprotect pkey_alloc pkey_free arch_prctl \
+const QUIET: &[u8] =
+    b"brk mprotect munmap mremap madvise mincore msync mlock mlock2 munlock mlockall munlockall membarrier pkey_mprotect pkey_alloc pkey_free arch_prctl \
     set_thread_area get_thread_area set_tid_address set_robust_list get_robust_list rseq futex futex_waitv rt_sigaction rt_sigprocmask rt_sigreturn \
     rt_sigpending rt_sigsuspend rt_sigtimedwait rt_sigqueueinfo rt_tgsigqueueinfo sigaltstack sigreturn sigaction sigprocmask signal pause restart_syscall \
     alarm setitimer getitimer timer_create timer_settime timer_gettime timer_delete timer_getoverrun nanosleep clock_nanosleep clock_gettime clock_getres \
@@ -120,134 +120,134 @@ const QUIET: &str =
     thr_exit thr_kill rtprio_thread minherit _umtx_op";
 
 /// The calls that work on a global name space, and are none of the calls here.
-const GLOBAL: &str =
-    "connect bind chmod chown lchown chown32 lchown32 symlink symlinkat link readlink mknod truncate truncate64 utime utimes statfs statfs64 \
+const GLOBAL: &[u8] =
+    b"connect bind chmod chown lchown chown32 lchown32 symlink symlinkat link readlink mknod truncate truncate64 utime utimes statfs statfs64 \
     setxattr lsetxattr getxattr lgetxattr listxattr llistxattr removexattr lremovexattr wait4 waitid waitpid kill pidfd_send_signal ptrace \
     process_vm_readv process_vm_writev mount umount umount2 pivot_root unshare setns sethostname setdomainname reboot sync swapon swapoff syslog quotactl \
     init_module finit_module delete_module acct shmget shmat shmdt shmctl semget semop semtimedop semctl msgget msgsnd msgrcv msgctl inotify_add_watch \
     inotify_rm_watch mq_unlink add_key request_key keyctl name_to_handle_at vhangup";
 
 /// The calls that are known, and have no counterpart.
-const UNKNOWN: &str =
-    "sendmmsg recvmmsg tee vmsplice fallocate syncfs io_setup io_submit io_getevents io_destroy io_cancel io_uring_setup io_uring_enter io_uring_register \
+const UNKNOWN: &[u8] =
+    b"sendmmsg recvmmsg tee vmsplice fallocate syncfs io_setup io_submit io_getevents io_destroy io_cancel io_uring_setup io_uring_enter io_uring_register \
     mq_open mq_timedsend mq_timedreceive fanotify_init fanotify_mark perf_event_open bpf pidfd_getfd process_mrelease __cap_rights_get cap_rights_get \
     cap_fcntls_get cap_ioctls_limit cap_ioctls_get";
 
 /// What calls are, by their names.
-const FORMS: [(&str, Form); 72] = [
-    ("open", Form::Opens(Opening::Plain)),
-    ("openat openat2", Form::Opens(Opening::At)),
-    ("creat", Form::Opens(Opening::Creat)),
-    ("read readv recv recvfrom", Form::Streams(Streaming::Read)),
+const FORMS: [(&[u8], Form); 72] = [
+    (b"open", Form::Opens(Opening::Plain)),
+    (b"openat openat2", Form::Opens(Opening::At)),
+    (b"creat", Form::Opens(Opening::Creat)),
+    (b"read readv recv recvfrom", Form::Streams(Streaming::Read)),
     (
-        "pread pread64 preadv preadv2",
+        b"pread pread64 preadv preadv2",
         Form::Streams(Streaming::ReadAt),
     ),
-    ("write writev send sendto", Form::Streams(Streaming::Write)),
+    (b"write writev send sendto", Form::Streams(Streaming::Write)),
     (
-        "pwrite pwrite64 pwritev pwritev2",
+        b"pwrite pwrite64 pwritev pwritev2",
         Form::Streams(Streaming::WriteAt),
     ),
-    ("sendmsg", Form::Streams(Streaming::SendMessage)),
-    ("recvmsg", Form::Streams(Streaming::ReceiveMessage)),
-    ("sendfile sendfile64", Form::Streams(Streaming::SendFile)),
-    ("splice copy_file_range", Form::Streams(Streaming::Splice)),
-    ("lseek _llseek", Form::Descriptor(OnDescriptor::Seek)),
+    (b"sendmsg", Form::Streams(Streaming::SendMessage)),
+    (b"recvmsg", Form::Streams(Streaming::ReceiveMessage)),
+    (b"sendfile sendfile64", Form::Streams(Streaming::SendFile)),
+    (b"splice copy_file_range", Form::Streams(Streaming::Splice)),
+    (b"lseek _llseek", Form::Descriptor(OnDescriptor::Seek)),
     (
-        "ftruncate ftruncate64",
+        b"ftruncate ftruncate64",
         Form::Descriptor(OnDescriptor::Truncate),
     ),
-    ("fsync fdatasync", Form::Descriptor(OnDescriptor::Sync)),
-    ("fstat fstat64", Form::Descriptor(OnDescriptor::Status)),
-    ("dup", Form::Descriptor(OnDescriptor::Duplicate)),
-    ("dup2 dup3", Form::Descriptor(OnDescriptor::DuplicateTo)),
-    ("close", Form::Descriptor(OnDescriptor::Close)),
-    ("close_range", Form::Descriptor(OnDescriptor::CloseRange)),
-    ("fcntl fcntl64", Form::Descriptor(OnDescriptor::Fcntl)),
-    ("ioctl", Form::Descriptor(OnDescriptor::Ioctl)),
+    (b"fsync fdatasync", Form::Descriptor(OnDescriptor::Sync)),
+    (b"fstat fstat64", Form::Descriptor(OnDescriptor::Status)),
+    (b"dup", Form::Descriptor(OnDescriptor::Duplicate)),
+    (b"dup2 dup3", Form::Descriptor(OnDescriptor::DuplicateTo)),
+    (b"close", Form::Descriptor(OnDescriptor::Close)),
+    (b"close_range", Form::Descriptor(OnDescriptor::CloseRange)),
+    (b"fcntl fcntl64", Form::Descriptor(OnDescriptor::Fcntl)),
+    (b"ioctl", Form::Descriptor(OnDescriptor::Ioctl)),
     (
-        "cap_rights_limit",
+        b"cap_rights_limit",
         Form::Descriptor(OnDescriptor::LimitRights),
     ),
     (
-        "cap_fcntls_limit",
+        b"cap_fcntls_limit",
         Form::Descriptor(OnDescriptor::LimitCommands),
     ),
     (
-        "stat stat64 lstat lstat64 access",
+        b"stat stat64 lstat lstat64 access",
         Form::Name(OnName::Status),
     ),
     (
-        "newfstatat fstatat64 statx faccessat faccessat2",
+        b"newfstatat fstatat64 statx faccessat faccessat2",
         Form::Name(OnName::StatusAt),
     ),
-    ("mkdir", Form::Name(OnName::MakeDirectory)),
-    ("mkdirat", Form::Name(OnName::MakeDirectoryAt)),
-    ("unlink", Form::Name(OnName::Remove)),
-    ("rmdir", Form::Name(OnName::RemoveDirectory)),
-    ("unlinkat", Form::Name(OnName::RemoveAt)),
-    ("rename", Form::Name(OnName::Rename)),
-    ("renameat renameat2", Form::Name(OnName::RenameAt)),
-    ("socketpair", Form::Pair(Pairing::Sockets)),
-    ("pipe pipe2", Form::Pair(Pairing::Pipe)),
+    (b"mkdir", Form::Name(OnName::MakeDirectory)),
+    (b"mkdirat", Form::Name(OnName::MakeDirectoryAt)),
+    (b"unlink", Form::Name(OnName::Remove)),
+    (b"rmdir", Form::Name(OnName::RemoveDirectory)),
+    (b"unlinkat", Form::Name(OnName::RemoveAt)),
+    (b"rename", Form::Name(OnName::Rename)),
+    (b"renameat renameat2", Form::Name(OnName::RenameAt)),
+    (b"socketpair", Form::Pair(Pairing::Sockets)),
+    (b"pipe pipe2", Form::Pair(Pairing::Pipe)),
     (
-        "socket accept accept4 epoll_create epoll_create1 eventfd eventfd2 timerfd_create inotify_init inotify_init1 memfd_create signalfd signalfd4 kqueue pidfd_open userfaultfd",
+        b"socket accept accept4 epoll_create epoll_create1 eventfd eventfd2 timerfd_create inotify_init inotify_init1 memfd_create signalfd signalfd4 kqueue pidfd_open userfaultfd",
         Form::World,
     ),
     (
-        "fork vfork clone clone3 pdfork",
+        b"fork vfork clone clone3 pdfork",
         Form::Process(OnProcess::Fork),
     ),
-    ("execve execveat", Form::Process(OnProcess::Execute)),
-    ("exit_group", Form::Process(OnProcess::End)),
-    ("exit", Form::Process(OnProcess::EndThread)),
-    ("chdir", Form::Process(OnProcess::ChangeDirectory)),
-    ("fchdir", Form::Process(OnProcess::ChangeDirectoryTo)),
-    ("chroot", Form::Process(OnProcess::ChangeRoot)),
-    ("cap_enter", Form::Process(OnProcess::EnterMode)),
-    ("cap_getmode", Form::Process(OnProcess::GetMode)),
-    ("mmap mmap2", Form::Map),
-    ("poll ppoll select _newselect pselect6", Form::Waits),
-    ("getdents getdents64", Form::Wants(OtherRight::Read, 0)),
+    (b"execve execveat", Form::Process(OnProcess::Execute)),
+    (b"exit_group", Form::Process(OnProcess::End)),
+    (b"exit", Form::Process(OnProcess::EndThread)),
+    (b"chdir", Form::Process(OnProcess::ChangeDirectory)),
+    (b"fchdir", Form::Process(OnProcess::ChangeDirectoryTo)),
+    (b"chroot", Form::Process(OnProcess::ChangeRoot)),
+    (b"cap_enter", Form::Process(OnProcess::EnterMode)),
+    (b"cap_getmode", Form::Process(OnProcess::GetMode)),
+    (b"mmap mmap2", Form::Map),
+    (b"poll ppoll select _newselect pselect6", Form::Waits),
+    (b"getdents getdents64", Form::Wants(OtherRight::Read, 0)),
     (
-        "epoll_wait epoll_pwait epoll_pwait2",
+        b"epoll_wait epoll_pwait epoll_pwait2",
         Form::Wants(OtherRight::KqueueEvent, 0),
     ),
-    ("epoll_ctl", Form::Wants(OtherRight::Event, 2)),
-    ("fchmod", Form::Wants(OtherRight::Fchmod, 0)),
-    ("fchown", Form::Wants(OtherRight::Fchown, 0)),
-    ("flock", Form::Wants(OtherRight::Flock, 0)),
-    ("fstatfs", Form::Wants(OtherRight::Fstatfs, 0)),
-    ("futimes", Form::Wants(OtherRight::Futimes, 0)),
-    ("listen", Form::Wants(OtherRight::Listen, 0)),
-    ("shutdown", Form::Wants(OtherRight::Shutdown, 0)),
-    ("setsockopt", Form::Wants(OtherRight::Setsockopt, 0)),
-    ("getsockopt", Form::Wants(OtherRight::Getsockopt, 0)),
-    ("getsockname", Form::Wants(OtherRight::Getsockname, 0)),
-    ("getpeername", Form::Wants(OtherRight::Getpeername, 0)),
-    ("sync_file_range", Form::Wants(OtherRight::Fsync, 0)),
+    (b"epoll_ctl", Form::Wants(OtherRight::Event, 2)),
+    (b"fchmod", Form::Wants(OtherRight::Fchmod, 0)),
+    (b"fchown", Form::Wants(OtherRight::Fchown, 0)),
+    (b"flock", Form::Wants(OtherRight::Flock, 0)),
+    (b"fstatfs", Form::Wants(OtherRight::Fstatfs, 0)),
+    (b"futimes", Form::Wants(OtherRight::Futimes, 0)),
+    (b"listen", Form::Wants(OtherRight::Listen, 0)),
+    (b"shutdown", Form::Wants(OtherRight::Shutdown, 0)),
+    (b"setsockopt", Form::Wants(OtherRight::Setsockopt, 0)),
+    (b"getsockopt", Form::Wants(OtherRight::Getsockopt, 0)),
+    (b"getsockname", Form::Wants(OtherRight::Getsockname, 0)),
+    (b"getpeername", Form::Wants(OtherRight::Getpeername, 0)),
+    (b"sync_file_range", Form::Wants(OtherRight::Fsync, 0)),
     (
-        "fsetxattr fremovexattr",
+        b"fsetxattr fremovexattr",
         Form::Wants(OtherRight::ExtattrSet, 0),
     ),
     (
-        "fgetxattr flistxattr",
+        b"fgetxattr flistxattr",
         Form::Wants(OtherRight::ExtattrGet, 0),
     ),
-    ("fchmodat fchmodat2", Form::WantsAt(OtherRight::Fchmodat)),
-    ("fchownat", Form::WantsAt(OtherRight::Fchownat)),
-    ("utimensat futimesat", Form::WantsAt(OtherRight::Futimesat)),
-    ("mknodat", Form::WantsAt(OtherRight::Mknodat)),
-    ("linkat", Form::WantsAt(OtherRight::Linkat)),
-    ("readlinkat", Form::WantsAt(OtherRight::Lookup)),
+    (b"fchmodat fchmodat2", Form::WantsAt(OtherRight::Fchmodat)),
+    (b"fchownat", Form::WantsAt(OtherRight::Fchownat)),
+    (b"utimensat futimesat", Form::WantsAt(OtherRight::Futimesat)),
+    (b"mknodat", Form::WantsAt(OtherRight::Mknodat)),
+    (b"linkat", Form::WantsAt(OtherRight::Linkat)),
+    (b"readlinkat", Form::WantsAt(OtherRight::Lookup)),
     (QUIET, Form::LeftOut(Reason::Quiet)),
     (GLOBAL, Form::LeftOut(Reason::Global)),
     (UNKNOWN, Form::LeftOut(Reason::Unknown)),
 ];
 
 /// Whether a name is among these.
-fn is_among(names: &str, name: &[u8]) -> bool {
-    let mut words = Words::new(names.as_bytes());
+fn is_among(names: &[u8], name: &[u8]) -> bool {
+    let mut words = Words::new(names);
     while let Some(word) = words.take() {
         if word == name {
             return true;
@@ -257,7 +257,7 @@ fn is_among(names: &str, name: &[u8]) -> bool {
 }
 
 /// What a call is by these forms.
-fn form_among(forms: &[(&str, Form)], name: &[u8]) -> Form {
+fn form_among(forms: &[(&[u8], Form)], name: &[u8]) -> Form {
     for (names, form) in forms {
         if is_among(names, name) {
             return *form;

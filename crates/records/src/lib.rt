@@ -5,6 +5,7 @@
 mod accounts;
 pub mod argument_parts;
 mod argument_values;
+mod beginnings;
 mod bindings;
 mod descriptor_calls;
 pub mod entries;
@@ -45,12 +46,14 @@ mod words;
 pub mod writing;
 
 pub use argument_parts::arguments;
+pub use beginnings::first_processes;
 pub use entries::{Binding, Entry, Event, LeftOut, MadeCall, Outcome, Reason, Span, WantedRight};
 pub use faults::CallsFault;
 pub use line_texts::add_event;
 pub use operands::{Kind, Operand, operand_kinds};
 pub use reading::read_calls;
 pub use recorded::{Recorded, recorded_calls};
+pub use sets::add_flags;
 pub use strace::{StraceLine, Told, read_strace};
 pub use strace_results::{Answer, CallResult};
 pub use writing::write_calls;

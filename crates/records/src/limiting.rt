@@ -6,7 +6,7 @@ use crate::known::About;
 use crate::real_calls::Given;
 use crate::runs::Run;
 use crate::seen_calls::SeenCall;
-use crate::strace_texts::{after, before, without_spaces};
+use crate::strace_texts::{after, between, without_spaces};
 use rights::Call;
 use std::alloc::Global;
 use texts::{Page, first_part};
@@ -15,18 +15,18 @@ use texts::{Page, first_part};
 const MOST_NAMES: usize = 128;
 
 /// The names that the calls here have otherwise.
-const SPELLINGS: [(&str, &str); 4] = [
-    ("RECV", "READ"),
-    ("SEND", "WRITE"),
-    ("PREAD", "READ,SEEK"),
-    ("PWRITE", "WRITE,SEEK"),
+const SPELLINGS: [(&[u8], &[u8]); 4] = [
+    (b"RECV", b"READ"),
+    (b"SEND", b"WRITE"),
+    (b"PREAD", b"READ,SEEK"),
+    (b"PWRITE", b"WRITE,SEEK"),
 ];
 
 /// A name of a right or a command, by these spellings.
-fn spelt<'t>(spellings: &[(&'t str, &'t str)], name: &'t [u8]) -> &'t [u8] {
+fn spelt<'t>(spellings: &[(&'t [u8], &'t [u8])], name: &'t [u8]) -> &'t [u8] {
     for (own, spelling) in spellings {
-        if name == own.as_bytes() {
-            return spelling.as_bytes();
+        if name == *own {
+            return spelling;
         }
     }
     name
@@ -43,7 +43,7 @@ fn add_name(page: &mut Page, word: &[u8], beginning: &[u8]) {
 
 /// The names in braces that an argument lists, as `{ CAP_READ,CAP_SEEK }`, without this beginning; nothing of an argument without braces.
 fn listed(alloc: Global, argument: &[u8], beginning: &[u8]) -> Option<Page> {
-    let mut rest = before(after(without_spaces(argument), b"{")?, b"}")?;
+    let mut rest = between(without_spaces(argument), b"{", b"}")?;
     let mut page = Page::new(alloc);
     for _ in 0..MOST_NAMES {
         let (word, behind) = first_part(rest, b',');

@@ -18,15 +18,12 @@ const ROOT: Mention<'static> = Mention {
     note: b"/",
 };
 
-/// Whether an argument names nothing.
-fn is_unnamed(argument: &[u8]) -> bool {
-    matches!(argument, [b'"', b'"']) || has_word(argument, b"NULL")
-}
-
 /// Whether a status is asked of a descriptor itself: by an empty name.
 fn is_of_itself(seen: &SeenCall<'_>) -> bool {
+    let name = seen.argument(1);
+    let is_unnamed = matches!(name, [b'"', b'"']) || has_word(name, b"NULL");
     let may_be_unnamed = seen.has(2, b"AT_EMPTY_PATH") || seen.has(3, b"AT_EMPTY_PATH");
-    may_be_unnamed && is_unnamed(seen.argument(1)) && here_note(seen.argument(0)).is_none()
+    is_unnamed && may_be_unnamed && here_note(seen.argument(0)).is_none()
 }
 
 /// What the node of a descriptor is.

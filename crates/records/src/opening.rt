@@ -43,28 +43,20 @@ fn flags_of(seen: &SeenCall<'_>, at: usize) -> Option<OpenFlags> {
 }
 
 /// The flags of an open that the calls here don't have, each with the error that it brings about: that the file be new, or a directory, or no link.
-const ASKED_MORE: [(&str, &str); 3] = [
-    ("O_EXCL", "EEXIST"),
-    ("O_DIRECTORY", "ENOTDIR"),
-    ("O_NOFOLLOW", "ELOOP"),
+const ASKED_MORE: [(&[u8], &[u8]); 3] = [
+    (b"O_EXCL", b"EEXIST"),
+    (b"O_DIRECTORY", b"ENOTDIR"),
+    (b"O_NOFOLLOW", b"ELOOP"),
 ];
 
 /// Whether an open with these flags fails for one of those.
-fn is_asked_more(asked: &[(&str, &str)], flags: &[u8], error: &[u8]) -> bool {
+fn is_asked_more(asked: &[(&[u8], &[u8])], flags: &[u8], error: &[u8]) -> bool {
     for (flag, brought) in asked {
-        if error == brought.as_bytes() && has_word(flags, flag.as_bytes()) {
+        if error == *brought && has_word(flags, flag) {
             return true;
         }
     }
     false
-}
-
-/// What an opened descriptor is of, where the record doesn't note it.
-fn opened(run: &mut Run, target: &Target<'_>) -> Kept {
-    match run.known.place_at(target) {
-        Some(place) => run.known.keep(place),
-        None => Kept::Unknown,
-    }
 }
 
 /// Puts an opened descriptor into its process's table.
@@ -73,7 +65,10 @@ fn hold(run: &mut Run, seen: &SeenCall<'_>, target: &Option<Target<'_>>, closes_
         return;
     };
     let kept = match target {
-        Some(target) if made.note.is_empty() => opened(run, target),
+        Some(target) if made.note.is_empty() => match run.known.place_at(target) {
+            Some(place) => run.known.keep(place),
+            None => Kept::Unknown,
+        },
         _ => run.known.kept_of_note(made.note),
     };
     run.known.hold(made.number, kept, closes_on_exec);

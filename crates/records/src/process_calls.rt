@@ -44,18 +44,13 @@ fn add_end(run: &mut Run, seen: &SeenCall<'_>) {
     }
 }
 
-/// The place that the first argument names, as it is kept.
-fn named_place(run: &mut Run, seen: &SeenCall<'_>) -> Kept {
-    match run.known.target(seen, HERE) {
-        Some(target) => run.known.keep(target.path),
-        None => Kept::Unknown,
-    }
-}
-
 /// A new current directory, or a new root directory, by its name.
 fn change(run: &mut Run, seen: &SeenCall<'_>, is_root: bool) {
     if seen.succeeds() {
-        let place = named_place(run, seen);
+        let place = match run.known.target(seen, HERE) {
+            Some(target) => run.known.keep(target.path),
+            None => Kept::Unknown,
+        };
         if is_root {
             run.known.process.root = place;
         } else {

@@ -5,8 +5,8 @@ use crate::entries::Outcome;
 use crate::logs::{CallName, When};
 use crate::names::find_error;
 use crate::strace_results::{Answer, CallResult};
-use crate::strace_texts::without_spaces;
-use crate::strings::{string_of, unescaped};
+use crate::strace_texts::{between, without_spaces};
+use crate::strings::unescaped;
 use rights::Errno;
 use std::alloc::Global;
 use texts::Page;
@@ -102,9 +102,10 @@ impl<'t> SeenCall<'t> {
         has_word(self.argument(at), word)
     }
 
-    /// The bytes of a string that an argument is.
+    /// The bytes of a string that an argument is, if it was written whole.
     pub(crate) fn string(&self, alloc: Global, at: usize) -> Option<Page> {
-        Some(unescaped(alloc, string_of(self.argument(at))?))
+        let text = between(self.argument(at), b"\"", b"\"")?;
+        Some(unescaped(alloc, text))
     }
 
     /// The number that it answers, where it succeeds and 32 bits hold it.

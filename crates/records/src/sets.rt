@@ -210,7 +210,7 @@ fn flag_set(flags: OpenFlags) -> u16
 }
 
 /// Adds the flags of an open.
-pub(crate) fn add_flags(page: &mut Page, flags: OpenFlags)
+pub fn add_flags(page: &mut Page, flags: OpenFlags)
     ensures { Adds page.old page.new (set_word flag_rows (flag_set flags)) }
 {
     add_set(page, flag_rows(), flag_set(flags));

@@ -6,7 +6,9 @@ ghost use Rattle.texts.specs.Lines.{lines_of};
 use crate::argument_parts::close_of;
 use crate::strace_headers::header_of;
 use crate::strace_results::{CallResult, result_of};
-use crate::strace_texts::{after, before, is_name, number_after, place_of, without_spaces};
+use crate::strace_texts::{
+    after, before, between, is_name, number_after, place_of, without_spaces,
+};
 use crate::truss::read_truss_line;
 use std::alloc::{AllocError, Global};
 use texts::{Lines, first_part};
@@ -65,18 +67,23 @@ fn ending(text: &[u8]) -> Option<Told<'_>> {
     if let Some(process) = number_after(text, b"superseded by execve in pid ") {
         return Some(Told::Superseded(process));
     }
-    Some(Told::Killed(after(text, b"killed by ")?))
+    match after(text, b"killed by ") {
+        Some(signal) => Some(Told::Killed(signal)),
+        None => None,
+    }
 }
 
 /// What a line between `+++ ` and ` +++` tells: how a process ended.
 fn end_of(text: &[u8]) -> Option<Told<'_>> {
-    ending(before(after(text, b"+++ ")?, b" +++")?)
+    ending(between(text, b"+++ ", b" +++")?)
 }
 
 /// What a line between `--- ` and ` ---` tells: a signal.
 fn signal_of(text: &[u8]) -> Option<Told<'_>> {
-    let signal = before(after(text, b"--- ")?, b" ---")?;
-    Some(Told::Signal(signal))
+    match between(text, b"--- ", b" ---") {
+        Some(signal) => Some(Told::Signal(signal)),
+        None => None,
+    }
 }
 
 /// The arguments up to the bracket that closes them, and the result behind it.

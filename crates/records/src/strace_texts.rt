@@ -11,22 +11,19 @@ use texts::number_up_to;
 pub(crate) fn after<'t>(text: &'t [u8], beginning: &[u8]) -> Option<&'t [u8]>
     ensures { IfSome result (λ rest. text.entry.now ≡ beginning.now ++ rest.now) }
 {
-    if text.len() < beginning.len() {
-        return None;
-    }
-    let (front, rest) = text.split_at(beginning.len());
-    if front == beginning { Some(rest) } else { None }
+    text.strip_prefix(beginning)
 }
 
 /// What stands before an ending.
 pub(crate) fn before<'t>(text: &'t [u8], ending: &[u8]) -> Option<&'t [u8]>
     ensures { IfSome result (λ front. text.entry.now ≡ front.now ++ ending.now) }
 {
-    if text.len() < ending.len() {
-        return None;
-    }
-    let (front, rest) = text.split_at(text.len() - ending.len());
-    if rest == ending { Some(front) } else { None }
+    text.strip_suffix(ending)
+}
+
+/// What stands between a beginning and an ending.
+pub(crate) fn between<'t>(text: &'t [u8], beginning: &[u8], ending: &[u8]) -> Option<&'t [u8]> {
+    before(after(text, beginning)?, ending)
 }
 
 /// The text without the spaces that it begins with.

@@ -1,6 +1,5 @@
 //! The strings of a record: bytes with C's escapes.
 
-use crate::strace_texts::{after, before};
 use std::alloc::Global;
 use texts::Page;
 
@@ -107,9 +106,4 @@ pub(crate) fn unescaped(alloc: Global, text: &[u8]) -> Page {
         page.bytes(&[value]);
     }
     page
-}
-
-/// The text of a string argument, still with its escapes, if it is one and was written whole.
-pub(crate) fn string_of(argument: &[u8]) -> Option<&[u8]> {
-    before(after(argument, b"\"")?, b"\"")
 }

@@ -1,8 +1,8 @@
 use Rattle.std.proofs.Common.{◌+◌, ◌∙◌, ap, sym, drop}
-use Rattle.records.specs.Quoted.{Gives, Leads, Within, unquoted_from}
+use Rattle.records.specs.Quoted.{Gives, Leads, Within, unquoted, unquoted_from}
 use Rattle.records.specs.QuotedViews.{effect_seen, progress_seen}
 use Rattle.records.specs.declared.quoting.Progress.{Progress as ProgressCode}
-use Rattle.records.proofs.QuotedLaws.{byte-goes}
+use Rattle.records.proofs.QuotedLaws.{byte-goes, byte-stops, ends-open}
 use Rattle.records.proofs.quoting.unquoted.Goals as goal
 use Rattle.records.proofs.quoting.unquoted.Goals.{in-Leads, in-Gives+in_ok-push-in-Gives}
 
@@ -26,3 +26,13 @@ loop-byte-preserved c =
           (ap (λ b. rest b Within) (sym w.in_ok-push-in-Gives.ensures.items) ∙ ap (λ v. rest v.items Within) (sym w.bytes-is)
           ∙ ap (λ (p : ProgressCode). rest next (progress_seen p)) (sym w.progress-is))
     ]
+
+pub returns-in-Stops : goal.returns-in-Stops
+unfolding unquoted
+returns-in-Stops c =
+    byte-stops c.args.word.now c.loop-byte.byte-index c.loop-byte.bytes.items (progress_seen c.loop-byte.progress) _ c.loop-byte-test.true c.loop-byte.invariant
+    (sym c.effect_of.ensures ∙ ap effect_seen c.in-Stops.is)
+
+pub returns-in_default : goal.returns-in_default
+unfolding unquoted
+returns-in_default c = ends-open c.args.word.now c.loop-byte.byte-index c.loop-byte.bytes.items c.loop-byte.progress _ c.loop-byte-test.false c.in_default.not-Behind c.loop-byte.invariant
