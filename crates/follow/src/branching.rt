@@ -5,6 +5,7 @@ use crate::leads::{Lead, Leads, Search, Trial, add_tried, code_of, event_of};
 use crate::numbers::{ProcessPair, model_of};
 use crate::outcomes::is_of_mode;
 use crate::standing::{next_entry, same_call};
+use crate::world_ends::may_help;
 use crate::worlds::{Awaited, add_by_world, has_world};
 use instruction_set::{Instruction, Operand, Register, Syscall};
 use records::{Entry, Event as Recorded, MadeCall, Outcome};
@@ -24,7 +25,7 @@ pub(crate) fn stand_in(pairs: &[ProcessPair], real: u32) -> Option<u8> {
 }
 
 /// Whether the call at which a process stands is that of the record, given the same.
-fn may_show(
+pub(crate) fn may_show(
     search: &Search<'_>,
     lead: &Lead<'_>,
     process: u8,
@@ -85,7 +86,7 @@ fn add_call<'a>(search: &Search<'a>, lead: &Lead<'a>, awaited: Awaited, found: &
     }
     let trial = awaited.trial(event_of(awaited.process));
     let is_shown = add_tried(search, lead, trial, found);
-    if !is_shown && has_world(lead) {
+    if !is_shown && has_world(lead) && may_help(search, lead, awaited.process) {
         add_by_world(search, lead, awaited, found);
     }
 }
@@ -251,7 +252,8 @@ pub(crate) fn reading(process: u8, input: u8) -> Event {
     }
 }
 
-/// Adds the runs in which a process reads a byte.
+/// Adds the runs in which a process reads a byte: those first in which it may show its next call then, and none in which it is stuck, if it
+/// isn't in all.
 fn add_inputs<'a>(
     search: &Search<'a>,
     lead: &Lead<'a>,
@@ -261,6 +263,7 @@ fn add_inputs<'a>(
 ) {
     let bytes = inputs(search, lead, process, register);
     found.note(&bytes);
+    let first = found.runs.len();
     for input in bytes.as_bytes() {
         let trial = Trial::Step {
             event: reading(process, *input),
@@ -268,6 +271,7 @@ fn add_inputs<'a>(
         };
         add_tried(search, lead, trial, found);
     }
+    found.prefer_showing(search, process, first);
 }
 
 /// Whether a call may show nothing.
@@ -275,37 +279,60 @@ fn may_be_silent(call: Call) -> bool {
     is_of_mode(call) || matches!(call, Call::Read | Call::Write)
 }
 
-/// Adds the runs in which a process goes on without showing a call.
-fn add_silent<'a>(search: &Search<'a>, lead: &Lead<'a>, process: u8, found: &mut Leads<'a>) {
-    match lead.instruction(search.task, process) {
-        Some(Instruction::In { register }) => add_inputs(search, lead, process, *register, found),
-        Some(Instruction::Invoke { call, .. }) if may_be_silent(call.call()) => {
-            add_tried(search, lead, Trial::Silent(process), found);
-        }
-        _ => {}
+/// In which turn runs are added that may come next: those that show a call come before those that don't.
+#[derive(Clone, Copy)]
+enum Turn {
+    Shown,
+    Bytes,
+    Skipped,
+    Repeated,
+}
+
+/// Adds the runs in which a process reads a byte, if it stands there.
+fn add_bytes<'a>(search: &Search<'a>, lead: &Lead<'a>, process: u8, found: &mut Leads<'a>) {
+    if let Some(Instruction::In { register }) = lead.instruction(search.task, process) {
+        add_inputs(search, lead, process, *register, found);
     }
 }
 
-/// Adds the runs that may come next by the entry of a place, those that show it first.
+/// Adds the run in which a process makes a call that shows nothing.
+fn add_repeated<'a>(search: &Search<'a>, lead: &Lead<'a>, process: u8, found: &mut Leads<'a>) {
+    if let Some(Instruction::Invoke { call, .. }) = lead.instruction(search.task, process) {
+        if may_be_silent(call.call()) {
+            add_tried(search, lead, Trial::Silent(process), found);
+        }
+    }
+}
+
+/// Adds the runs that may come next by the entry of a place.
 fn add_next<'a>(
     search: &Search<'a>,
     lead: &Lead<'a>,
     entry: &Entry,
     at: usize,
+    turn: Turn,
     found: &mut Leads<'a>,
 ) {
-    if let Some(process) = stand_in(&lead.progress.pairs, entry.process) {
-        add_shown(search, lead, process, entry, at, found);
-        add_tried(search, lead, Trial::Skip(at), found);
-        add_silent(search, lead, process, found);
+    let Some(process) = stand_in(&lead.progress.pairs, entry.process) else {
+        return;
+    };
+    match turn {
+        Turn::Shown => add_shown(search, lead, process, entry, at, found),
+        Turn::Bytes => add_bytes(search, lead, process, found),
+        Turn::Skipped => {
+            add_tried(search, lead, Trial::Skip(at), found);
+        }
+        Turn::Repeated => add_repeated(search, lead, process, found),
     }
 }
 
-/// Adds the runs that may come next.
+/// Adds the runs that may come next, those that show a call first.
 pub(crate) fn add_branches<'a>(search: &Search<'a>, lead: &Lead<'a>, found: &mut Leads<'a>) {
-    for at in 0..MOST_NEXT {
-        if let Some(entry) = next_entry(&lead.progress.standing.left, at) {
-            add_next(search, lead, entry, at, found);
+    for turn in [Turn::Shown, Turn::Bytes, Turn::Skipped, Turn::Repeated] {
+        for at in 0..MOST_NEXT {
+            if let Some(entry) = next_entry(&lead.progress.standing.left, at) {
+                add_next(search, lead, entry, at, turn, found);
+            }
         }
     }
 }

@@ -80,7 +80,7 @@ impl Digest {
 }
 
 /// The descriptor of a process at a number, and what it is of.
-fn open_at(files: &Files, process: u8, number: u8) -> Option<(Descriptor, Description)> {
+pub(crate) fn open_at(files: &Files, process: u8, number: u8) -> Option<(Descriptor, Description)> {
     match files.get(process, number) {
         None => None,
         Some(descriptor) => {

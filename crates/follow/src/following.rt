@@ -16,8 +16,8 @@ use crate::standing::{Standing, has_limiting};
 use crate::witnesses::{Move, Witness};
 use indexmap::IndexSet;
 use link_tree::LinkTree;
-use records::{Entry, Event as Recorded, Outcome};
-use rights::{Call, Memory};
+use records::{Entry, first_processes};
+use rights::Memory;
 use simulator::{LineResult, Machine};
 use std::alloc::Global;
 use std::mem;
@@ -91,32 +91,6 @@ struct Trail<'a> {
     points: Vec<AtPoint>,
     /// Whether memory was refused for something of that.
     is_short: bool,
-}
-
-/// The processes that a record's calls make.
-fn children(alloc: Global, entries: &[Entry]) -> Result<Vec<u32>, Memory> {
-    let mut made = Vec::new(alloc);
-    for entry in entries {
-        if let Recorded::Called(call) = &entry.event {
-            if let (Call::Fork, Outcome::Success(child)) = (call.call, call.outcome) {
-                made.push(child)?;
-            }
-        }
-    }
-    Ok(made)
-}
-
-/// The processes of a record that none of its calls makes, in the order in which they come.
-fn first_processes(alloc: Global, entries: &[Entry]) -> Result<Vec<u32>, Memory> {
-    let made = children(alloc, entries)?;
-    let mut first = Vec::new(alloc);
-    for entry in entries {
-        let is_counted = !matches!(entry.event, Recorded::Omitted(_));
-        if is_counted && !made.contains(&entry.process) && !first.contains(&entry.process) {
-            first.push(entry.process)?;
-        }
-    }
-    Ok(first)
 }
 
 /// Has the first processes of the task, but for those of a program `world`, stand for those of the record, in this order.

@@ -76,7 +76,7 @@ pub(crate) fn event_of(process: u8) -> Event {
 
 impl<'a> Search<'a> {
     /// What is searched in, with these processes that stand for the record's.
-    fn setting<'s>(&self, pairs: &'s [ProcessPair]) -> Setting<'s>
+    pub(crate) fn setting<'s>(&self, pairs: &'s [ProcessPair]) -> Setting<'s>
     where
         'a: 's,
     {
@@ -338,15 +338,20 @@ impl<'a> Lead<'a> {
         self.told(may)
     }
 
-    /// Takes a step of the world, and what the process does up to its next call. Whether something comes of it is told.
+    /// Takes a step of the world, to where its call has come back, and what the process does up to its next call. Whether something comes
+    /// of it is told.
     fn move_world(&mut self, search: &Search<'a>, event: Event) -> bool {
-        match self.step(search, event, None) {
-            None | Some(LineResult::Waiting | LineResult::Ended) => false,
-            Some(_) => {
-                self.run_plain(search, event.process);
-                true
+        for _ in 0..MOST_LOOKUPS {
+            match self.step(search, event, None) {
+                Some(LineResult::Walking) => {}
+                None | Some(LineResult::Waiting | LineResult::Ended) => return false,
+                Some(_) => {
+                    self.run_plain(search, event.process);
+                    return true;
+                }
             }
         }
+        false
     }
 
     /// Notes that the next process that is made stands for this one of the record.
@@ -394,7 +399,7 @@ impl<'a> Lead<'a> {
     }
 
     /// Runs a process on up to its next call, byte or end.
-    fn run_plain(&mut self, search: &Search<'a>, process: u8) {
+    pub(crate) fn run_plain(&mut self, search: &Search<'a>, process: u8) {
         for _ in 0..MOST_PLAIN {
             if !self.is_plain(search, process) {
                 break;

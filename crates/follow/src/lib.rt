@@ -14,9 +14,11 @@ mod leads;
 pub mod numbers;
 mod outcomes;
 pub mod places;
+mod prospects;
 mod standing;
 mod transfers;
 pub mod witnesses;
+mod world_ends;
 mod worlds;
 
 pub use checking::shows;

@@ -188,7 +188,7 @@ fn shows_event(
 }
 
 /// Whether a call may be skipped, as far as what it was given goes.
-fn may_skip(
+pub(crate) fn may_skip(
     alloc: Global,
     setting: &Setting<'_>,
     namings: &[Naming],

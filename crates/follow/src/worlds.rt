@@ -16,7 +16,7 @@ const MOST_STEPS: usize = 600;
 const MOST_FOUND: usize = 4;
 
 /// Whether a process was made, lives, and stands for none of the record.
-fn is_of_world(lead: &Lead<'_>, number: usize) -> bool {
+pub(crate) fn is_of_world(lead: &Lead<'_>, number: usize) -> bool {
     match lead.machine.processes().get(number) {
         None => false,
         Some(process) => process.alive && !is_recorded(&lead.progress.pairs, number),

@@ -1,0 +1,135 @@
+//! Whether a process of a run stands where it may show its next call.
+
+use crate::branching::may_show;
+use crate::leads::{Lead, Leads, Search};
+use crate::numbers::ProcessPair;
+use crate::outcomes::is_of_mode;
+use crate::standing::may_skip;
+use crate::transfers::{is_repeat, transfer_in};
+use instruction_set::{Instruction, Syscall};
+use records::{Entry, Event, MadeCall};
+use simulator::LineResult;
+
+/// The first entry of a process of the record that is left.
+fn next_of<'c>(left: &[&'c Entry], process: u32) -> Option<&'c Entry> {
+    for entry in left {
+        if entry.process == process {
+            return Some(*entry);
+        }
+    }
+    None
+}
+
+/// Whether a process may make the call at which it stands without showing one.
+fn may_pass(search: &Search<'_>, lead: &Lead<'_>, process: u8, call: &Syscall) -> bool {
+    let Some(state) = lead.machine.processes().get(process as usize) else {
+        return false;
+    };
+    let transfer = transfer_in(&state.registers, Some(call), LineResult::Value(0));
+    let history = &lead.progress.standing.history;
+    !search.limited && is_of_mode(call.call()) || is_repeat(history, usize::from(process), transfer)
+}
+
+/// Whether a call of the record may be skipped, as far as what it was given goes.
+fn may_be_skipped(search: &Search<'_>, lead: &Lead<'_>, process: u8, made: &MadeCall) -> bool {
+    let setting = search.setting(&lead.progress.pairs);
+    let namings = &lead.progress.standing.namings;
+    may_skip(search.alloc, &setting, namings, usize::from(process), made).unwrap_or(true)
+}
+
+/// What may come of the instruction at which a process stands.
+#[derive(Clone, Copy, PartialEq, Eq)]
+enum Prospect {
+    /// It may show the next call of the process.
+    Shows,
+    /// It may be passed, or the call skipped.
+    Passes,
+    Stuck,
+}
+
+/// What may come of the instruction at which a process stands, before its next entry.
+fn prospect_before(search: &Search<'_>, lead: &Lead<'_>, process: u8, entry: &Entry) -> Prospect {
+    let is_free = match (lead.instruction(search.task, process), &entry.event) {
+        (Some(Instruction::Invoke { call, .. }), Event::Called(made)) => {
+            if may_show(search, lead, process, call, made) {
+                return Prospect::Shows;
+            }
+            may_pass(search, lead, process, call) || may_be_skipped(search, lead, process, made)
+        }
+        (Some(Instruction::Invoke { call, .. }), _) => may_pass(search, lead, process, call),
+        (Some(Instruction::Halt), Event::Called(made)) => {
+            may_be_skipped(search, lead, process, made)
+        }
+        _ => return Prospect::Shows,
+    };
+    if is_free {
+        Prospect::Passes
+    } else {
+        Prospect::Stuck
+    }
+}
+
+/// Which process of the record one of the task stands for.
+fn stands_for(pairs: &[ProcessPair], process: u8) -> Option<u32> {
+    for pair in pairs {
+        if pair.model == process {
+            return Some(pair.real);
+        }
+    }
+    None
+}
+
+/// What may come of the instruction at which a process stands.
+fn prospect_of(search: &Search<'_>, lead: &Lead<'_>, process: u8) -> Prospect {
+    let entry = stands_for(&lead.progress.pairs, process).and_then(|real| next_of(
+        &lead.progress.standing.left,
+        real,
+    ));
+    match entry {
+        Some(entry) => prospect_before(search, lead, process, entry),
+        None => Prospect::Shows,
+    }
+}
+
+impl<'a> Leads<'a> {
+    /// Runs a process on to where it is no longer alone, in the run of a place, and tells what may come of that.
+    fn prospect_at(&mut self, search: &Search<'a>, process: u8, at: usize) -> Prospect {
+        match self.runs.get_mut(at) {
+            Some(lead) => {
+                lead.run_plain(search, process);
+                prospect_of(search, lead, process)
+            }
+            None => Prospect::Stuck,
+        }
+    }
+
+    /// Whether a process is stuck in all runs from a place on.
+    fn are_all_stuck(&mut self, search: &Search<'a>, process: u8, first: usize) -> bool {
+        for at in first..self.runs.len() {
+            if self.prospect_at(search, process, at) != Prospect::Stuck {
+                return false;
+            }
+        }
+        true
+    }
+
+    /// Has those runs from a place on come first in which a process may show its next call, and drops those in which it is stuck, unless it
+    /// is in all of them.
+    pub(crate) fn prefer_showing(&mut self, search: &Search<'a>, process: u8, first: usize) {
+        if self.are_all_stuck(search, process, first) {
+            return;
+        }
+        let mut at = first;
+        for _ in first..self.runs.len() {
+            let prospect = self.prospect_at(search, process, at);
+            if prospect == Prospect::Shows || at >= self.runs.len() {
+                at = at.saturating_add(1);
+                continue;
+            }
+            let run = self.runs.remove(at);
+            if prospect == Prospect::Passes {
+                self.push(run);
+            }
+        }
+    }
+}
