@@ -1,4 +1,5 @@
 pub mod Refused
 pub mod NoAnswerLaws
+pub mod LearntLaws
 pub mod PlacingLaws
 pub mod Writes

@@ -20,10 +20,10 @@ use Rattle.answers.specs.PlacingWords.{placings_in}
 use Rattle.explain.specs.TaskTexts.{IsTaskText}
 use Rattle.explain.specs.Telling.{HasHead, Tells, TellsEach, none_yet, one_more, finding_text, point_with_line}
 
-same_some : {A : Type 0} {x y : A} → Some x ≡ Some y → x ≡ y
+pub same_some : {A : Type 0} {x y : A} → Some x ≡ Some y → x ≡ y
 same_some same = cc
 
-same_ok : {A E : Type 0} {x y : A} (r : Result A E) → r ≡ Ok x → r ≡ Ok y → x ≡ y
+pub same_ok : {A E : Type 0} {x y : A} (r : Result A E) → r ≡ Ok x → r ≡ Ok y → x ≡ y
 same_ok r first second = let same = sym first ∙ second in cc
 
 never_both : (Holds : Type 0) → SaysWhether 0 Holds → Holds

@@ -23,8 +23,9 @@ use Rattle.texts.specs.Lines.{lines_of}
 use Rattle.explore.specs.Breaches as explore
 use Rattle.explore.specs.Broken.{Breaks, IsRefuted, Move, own_moves}
 use Rattle.explore.specs.Texts.{WritesRun, schedule_text}
+use Rattle.answers.specs.Learnt.{SaysLearnt}
 use Rattle.answers.specs.PlacingWords.{placings_in}
-use Rattle.answers.specs.Questions.{Question, Usage, Listing, Broken, Unfound, Breach, Proposed, Page, Log, Faulty, Calls, Followed, question_in}
+use Rattle.answers.specs.Questions.{Question, Usage, Listing, Broken, Unfound, Breach, Proposed, Page, Log, Faulty, Calls, Followed, Learnt, question_in}
 use Rattle.explain.specs.TaskTexts.{IsTaskText}
 use Rattle.explain.specs.Telling.{Tells}
 
@@ -181,7 +182,7 @@ pub record SaysOfFollowing (files : Files) (task calls : List ℕ) (places : Lis
   pub is_calls_file : IsFile files calls calls_text
   pub says : SaysWhetherFollowed text calls_text places status before after
 
--- what is taken of the output before and after is told of broken rules, of proposals, of runs and of calls
+-- what is taken of the output before and after is told of broken rules, of proposals, of runs, of calls and of what is learnt
 abbrev pub Answers : Files → Question → ℕ → Option (List ℕ) → Option (List ℕ) → Type 0
 Answers files Usage status before after = status ≡ 0
 Answers files (Listing task certificate) status before after = status ≡ 0
@@ -196,6 +197,7 @@ Answers files (Log task (Some certificate)) status before after = SaysOfChecked 
 Answers files (Faulty task) status before after = SaysOfFile files task status
 Answers files (Calls file) status before after = SaysOfRecord files file status before after
 Answers files (Followed task calls places) status before after = SaysOfFollowing files task calls places status before after
+Answers files (Learnt calls) status before after = SaysLearnt files calls status before after
 
 -- The words ask something, and it is answered.
 pub record AnswersWords (files : Files) (words : List (List ℕ)) (status : ℕ) (before after : Option (List ℕ)) : Type 0 where

@@ -1,5 +1,6 @@
 pub mod PlacingWords
 pub mod PlacingViews
+pub mod Learnt
 pub mod Questions
 pub mod QuestionViews
 pub mod Answered

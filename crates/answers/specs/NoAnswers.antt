@@ -1,5 +1,5 @@
 -- What is no answer. (own)
-use Rattle.std.specs.Prelude.{◌≡◌, ℕ, false, List, [], Option, Some, None, Ok}
+use Rattle.std.specs.Prelude.{◌≡◌, ℕ, false, List, [], ◌∷◌, Option, Some, None, Ok}
 use Rattle.certificate.specs.Bounds.{Certificate}
 use Rattle.certificate_text.specs.Readings.{certificate_of_text}
 use Rattle.checker.specs.Findings.{BrokenRule}
@@ -12,7 +12,7 @@ use Rattle.task.specs.Plans.{Plan}
 use Rattle.task_reader.specs.Reading.{task_of}
 use Rattle.answers.specs.Answered.{Answers}
 use Rattle.answers.specs.PlacingWords.{placings_in}
-use Rattle.answers.specs.Questions.{Broken, Calls, Followed, Log, Unfound}
+use Rattle.answers.specs.Questions.{Broken, Calls, Followed, Learnt, Log, Unfound}
 use Rattle.explain.specs.TaskTexts.{IsTaskText}
 use Rattle.explain.specs.Telling.{HasHead}
 
@@ -50,3 +50,11 @@ pub record RecordsAreHeard : Type 0 where
       → ((witness : Witness) → IsShown plan (placings_in places) recorded witness → ⊥) → Answers (Some files) (Followed task calls places) 0 before after → ⊥
   pub unwritten : (files : List ℕ → Option (List ℕ)) (task calls : List ℕ) (places : List (List ℕ)) (before : List ℕ)
       → Answers (Some files) (Followed task calls places) 0 (Some before) (Some before) → ⊥
+
+-- status 0 to `learn` of calls that no run of any task shows; and any, where there is no such file
+pub record LearntIsFollowed : Type 0 where
+  pub unshown : (files : List ℕ → Option (List ℕ)) (calls calls_text : List ℕ) (recorded : RecordedCalls) (before after : Option (List ℕ))
+      → files calls ≡ Some calls_text → calls_of_text calls_text ≡ Ok recorded → ((plan : Plan) (witness : Witness) → IsShown plan [] recorded witness → ⊥)
+      → Answers (Some files) (Learnt (calls ∷ [])) 0 before after → ⊥
+  pub missing : (files : List ℕ → Option (List ℕ)) (calls : List ℕ) (status : ℕ) (before after : Option (List ℕ)) → files calls ≡ None
+      → Answers (Some files) (Learnt (calls ∷ [])) status before after → ⊥

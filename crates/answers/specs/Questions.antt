@@ -10,7 +10,7 @@ use Rattle.answers.specs.PlacingWords.{placing_in}
 -- what there is to ask; for a listing of a task, with the bounds of a certificate or without; for all rules that a certificate breaks; for what the search comes to; for
 -- a run that breaks the sandbox, among so many states at most; for a certificate, of untrusted programs too, or for one of an older text carried over; for a page to
 -- look at, or a log for code scanning, of a task alone or with a certificate; for the faults of a task's text; for the calls of a record of strace; for whether
--- recorded calls follow a task, whose places lie where words say
+-- recorded calls follow a task, whose places lie where words say; for a task, of files of recorded calls
 pub data Question : Type 0 where
   Usage : Question
   Listing : (task : List ℕ) (certificate : Option (List ℕ)) → Question
@@ -23,6 +23,7 @@ pub data Question : Type 0 where
   Faulty : (task : List ℕ) → Question
   Calls : (file : List ℕ) → Question
   Followed : (task calls : List ℕ) (places : List (List ℕ)) → Question
+  Learnt : (calls : List (List ℕ)) → Question
 
 abbrev pub if_so : Bool → Question → Option Question
 if_so asked question = if asked then Some question else None
@@ -61,16 +62,30 @@ abbrev pub followed : List ℕ → List ℕ → List (List ℕ) → Option Quest
 followed task calls places =
     if_so (not (is_dashed task || is_dashed calls || not (list_all (λ place. is_some (placing_in place)) places))) (Followed task calls places)
 
+abbrev pub are_files : List (List ℕ) → Bool
+are_files names = list_all (λ name. not (is_dashed name)) names
+
+abbrev pub learnt : List (List ℕ) → Option Question
+learnt calls = if_so (are_files calls) (Learnt calls)
+
 abbrev pub of_more : List (List ℕ) → Option Question → Option Question
 of_more [] question = question
 of_more (word ∷ words) question = None
 
+-- of a file, and others behind it
+abbrev pub of_files : List ℕ → List ℕ → List (List ℕ) → Option Question
+of_files command task [] = of_task command task
+of_files command task (other ∷ words) =
+    if bytes_eq command (codes "follow") then followed task other words else of_more words (of_pair command task other)
+
+abbrev pub of_command : List ℕ → List (List ℕ) → Option Question
+of_command command [] = if_so (bytes_eq command (codes "--help")) Usage
+of_command command (task ∷ words) =
+    if bytes_eq command (codes "learn") then learnt (task ∷ words) else of_files command task words
+
 -- No words, or `--help`; `list TASK`, `none TASK`, `breach TASK`, `propose TASK`, `page TASK`, `sarif TASK`, `text TASK`, `calls RECORD`; `list TASK CERT`,
--- `breach TASK STATES`, `propose TASK CERT`, `page TASK CERT`, `sarif TASK CERT`, `no TASK CERT`; `follow TASK CALLS` and words REAL=MODEL. No name
--- begins with `-`, and a number of states fits 32 bits.
+-- `breach TASK STATES`, `propose TASK CERT`, `page TASK CERT`, `sarif TASK CERT`, `no TASK CERT`; `follow TASK CALLS` and words REAL=MODEL; `learn` and
+-- files of calls. No name begins with `-`, and a number of states fits 32 bits.
 abbrev pub question_in : List (List ℕ) → Option Question
 question_in [] = Some Usage
-question_in (word ∷ []) = if_so (bytes_eq word (codes "--help")) Usage
-question_in (command ∷ task ∷ []) = of_task command task
-question_in (command ∷ task ∷ other ∷ words) =
-    if bytes_eq command (codes "follow") then followed task other words else of_more words (of_pair command task other)
+question_in (command ∷ words) = of_command command words

@@ -14,6 +14,7 @@ ghost use Rattle.rights.specs.Output.{Took};
 
 use crate::breaching::answer_breach;
 use crate::following::answer_follow;
+use crate::learning::answer_learn;
 use crate::paging::{answer_checked_page, answer_page};
 use crate::questions::{Question, read_question};
 use crate::recording::answer_calls;
@@ -420,6 +421,7 @@ fn reply<'a, S: Source, W: Out, V: Out, P: Watcher>(
             calls,
             places,
         } => answer_held(alloc, files, task, calls, places, out),
+        Question::Learnt { calls } => answer_learn(alloc, files, calls, out, err),
     }
 }
 

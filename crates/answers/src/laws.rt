@@ -1,6 +1,6 @@
 //! What is no answer. Each law is the contract of a function that does nothing.
 
-ghost use Rattle.answers.specs.NoAnswers.{LogSaysWhether, NoSaysWhether, NoneSaysWhether, RecordsAreHeard};
+ghost use Rattle.answers.specs.NoAnswers.{LearntIsFollowed, LogSaysWhether, NoSaysWhether, NoneSaysWhether, RecordsAreHeard};
 
 /// The status of `no` says whether the certificate is accepted: 0 isn't the answer to one that is refused, nor 1 to one that is
 /// accepted; and nothing written is an answer to neither. (own)
@@ -23,4 +23,9 @@ pub fn a_log_says_something()
 /// Nothing written is no answer to `calls`, nor to `follow` with 0; and 0 is none to calls that no run of the task shows. (own)
 pub fn records_are_heard()
     ensures { RecordsAreHeard }
+{}
+
+/// 0 is no answer to `learn` of calls that no run of any task shows, and nothing is one of a file that isn't there. (own)
+pub fn what_is_learnt_is_followed()
+    ensures { LearntIsFollowed }
 {}

@@ -7,6 +7,7 @@ mod breaching;
 mod following;
 mod known_bounds;
 pub mod laws;
+mod learning;
 mod paging;
 mod parting;
 mod placing_words;

@@ -2,7 +2,7 @@
 
 ghost use Rattle.std.specs.Prelude.{◌≡◌, map, option_map, string_bytes};
 ghost use Rattle.command_line.specs.Orders.{is_dashed};
-ghost use Rattle.answers.specs.Questions.{among, followed, most_states, of_pair, of_task, question_in};
+ghost use Rattle.answers.specs.Questions.{among, are_files, followed, learnt, most_states, of_command, of_files, of_pair, of_task, question_in};
 ghost use Rattle.answers.specs.QuestionViews.{question_of};
 ghost use Rattle.texts.specs.Numbers.{at_most, number_of};
 
@@ -62,6 +62,10 @@ pub enum Question<'a> {
         task: &'a str,
         calls: &'a str,
         places: &'a [String],
+    },
+    /// `learn CALLS` with any number of files of recorded calls: a task that they show.
+    Learnt {
+        calls: &'a [String],
     },
 }
 
@@ -144,18 +148,59 @@ fn followed<'a>(task: &'a str, calls: &'a str, places: &'a [String]) -> Option<Q
     })
 }
 
+/// Whether no word begins with `-`.
+fn are_files(words: &[String]) -> bool
+    ensures { result ≡ are_files (map string_bytes words.now) }
+{
+    for word in words {
+        if is_dashed(word.as_str()) {
+            return false;
+        }
+    }
+    true
+}
+
+/// The task that recorded calls show.
+fn learnt(calls: &[String]) -> Option<Question<'_>>
+    ensures { option_map question_of result ≡ learnt (map string_bytes calls.now) }
+{
+    if are_files(calls) {
+        Some(Question::Learnt { calls })
+    } else {
+        None
+    }
+}
+
+/// What a command asks of a file and others behind it.
+fn of_files<'a>(command: &str, task: &'a str, others: &'a [String]) -> Option<Question<'a>>
+    ensures { option_map question_of result ≡ of_files command.now task.now (map string_bytes others.now) }
+{
+    match others {
+        [] => of_task(command, task),
+        [calls, places @ ..] if command == "follow" => followed(task, calls.as_str(), places),
+        [cert] => of_pair(command, task, cert.as_str()),
+        _ => None,
+    }
+}
+
+/// What a command asks of the words behind it.
+fn of_command<'a>(command: &str, words: &'a [String]) -> Option<Question<'a>>
+    ensures { option_map question_of result ≡ of_command command.now (map string_bytes words.now) }
+{
+    match words {
+        [] if command == "--help" => Some(Question::Usage),
+        [] => None,
+        [_, ..] if command == "learn" => learnt(words),
+        [task, others @ ..] => of_files(command, task.as_str(), others),
+    }
+}
+
 /// What the words ask, if they ask anything. A name of a file may be empty, and have any bytes but a leading `-`. (own)
 pub fn read_question<'a>(words: &'a [String]) -> Option<Question<'a>>
     ensures { option_map question_of result ≡ question_in (map string_bytes words.now) }
 {
     match words {
         [] => Some(Question::Usage),
-        [word] if word.as_str() == "--help" => Some(Question::Usage),
-        [command, task] => of_task(command.as_str(), task.as_str()),
-        [command, task, calls, places @ ..] if command.as_str() == "follow" => {
-            followed(task.as_str(), calls.as_str(), places)
-        }
-        [command, task, cert] => of_pair(command.as_str(), task.as_str(), cert.as_str()),
-        _ => None,
+        [command, names @ ..] => of_command(command.as_str(), names),
     }
 }

@@ -17,5 +17,7 @@ capwhy text TASK             where the faults of a task's text are
 capwhy calls RECORD          the calls of a record of strace -f
 capwhy follow TASK CALLS [REAL=MODEL ..]
                              whether recorded calls follow a task, whose places lie at MODEL where the record has REAL
-capwhy --help                this text, of version 1.7
+capwhy learn CALLS [CALLS ..]
+                             a task of which these calls are runs, as a draft
+capwhy --help                this text, of version 1.8
 ";

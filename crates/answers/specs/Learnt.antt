@@ -1,0 +1,46 @@
+-- What is said of a task that was learnt of recorded calls. (own)
+use Rattle.std.specs.Prelude.{◌≡◌, ◌⊎◌, ℕ, List, [], ◌∷◌, Option, Ok}
+use Rattle.console.specs.Files.{Files, IsRead}
+use Rattle.follow.specs.Shows.{IsShown, Witness}
+use Rattle.records.specs.Calls.{RecordedCalls}
+use Rattle.records.specs.Readings.{calls_of_text}
+use Rattle.rights.specs.Output.{Took}
+use Rattle.task.specs.Plans.{Plan}
+use Rattle.task_reader.specs.Reading.{task_of}
+
+-- the calls of files, in their order
+abbrev pub AreCalls : Files → List (List ℕ) → List RecordedCalls → Type 0
+AreCalls files [] [] = Unit {0}
+AreCalls files (name ∷ names) (calls ∷ records) = IsRead files name calls_of_text (Ok calls) × AreCalls files names records
+AreCalls files names records = ⊥
+
+-- Some run of the task shows the calls.
+abbrev pub IsFollowed : Plan → RecordedCalls → Type 0
+IsFollowed plan calls = (witness : Witness) × IsShown plan [] calls witness
+
+-- That is so of each record.
+abbrev pub AreFollowed : Plan → List RecordedCalls → Type 0
+AreFollowed plan [] = Unit {0}
+AreFollowed plan (calls ∷ records) = IsFollowed plan calls × AreFollowed plan records
+
+-- With status 0 it is; 1 claims nothing.
+abbrev pub SaysFollowedBy : Plan → List RecordedCalls → ℕ → Type 0
+SaysFollowedBy plan records status = ((status ≡ 0) × AreFollowed plan records) ⊎ (status ≡ 1)
+
+-- The text of a task is written, of which that is said.
+pub record WritesTask (records : List RecordedCalls) (status : ℕ) (before after : Option (List ℕ)) : Type 0 where
+  pub text : List ℕ
+  pub plan : Plan
+  pub is_task : task_of text ≡ Ok plan
+  pub writes : Took before after text
+  pub says : SaysFollowedBy plan records status
+
+-- Nothing is written, with status 1.
+abbrev pub WritesNothing : ℕ → Option (List ℕ) → Option (List ℕ) → Type 0
+WritesNothing status before after = (status ≡ 1) × (after ≡ before)
+
+-- of files of recorded calls
+pub record SaysLearnt (files : Files) (names : List (List ℕ)) (status : ℕ) (before after : Option (List ℕ)) : Type 0 where
+  pub records : List RecordedCalls
+  pub are_calls : AreCalls files names records
+  pub says : WritesTask records status before after ⊎ WritesNothing status before after

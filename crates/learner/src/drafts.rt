@@ -1,0 +1,236 @@
+//! The text of a task, of what was learnt.
+
+use crate::codes::Code;
+use crate::needs::{Need, need_of};
+use crate::room::Room;
+use crate::tables::{Held, Holding, Table};
+use crate::trees::{Deed, Link, Node, Presence, Tree};
+use crate::worlds::{WorldEnd, world_code};
+use rights::Side;
+use rights::limits::MAX_BYTES;
+use texts::{Page, Say, parts_of, say};
+
+/// A program, and what its first process begins with.
+#[derive(Drop)]
+pub(crate) struct Program {
+    pub name: Vec<u8>,
+    pub code: Code,
+    pub table: Table,
+}
+
+/// A pair that is there from the start: of an end of a program's process, by its number there, or of a pair of the record.
+#[derive(Clone, Copy, PartialEq, Eq)]
+enum Origin {
+    World { program: usize, first: u8 },
+    Recorded(u32),
+}
+
+/// A task on its way.
+#[derive(Drop)]
+pub(crate) struct Draft {
+    pub programs: Vec<Program>,
+    pub needs: Vec<Need>,
+    pub tree: Tree,
+    /// The pairs that are there from the start, in the order of their numbers.
+    pairs: Vec<Origin>,
+}
+
+/// Adds a node.
+fn add_node(page: &mut Page, node: &Node) {
+    let place = node.place.as_slice();
+    match node.first {
+        Presence::Absent => {}
+        Presence::Directory => say!(page; " {path=\"", place, "\", kind=\"dir\"},\n"),
+        Presence::File => {
+            say!(page; " {path=\"", place, "\", kind=\"file\", content=\"");
+            for _ in 0..node.length.min(MAX_BYTES) {
+                page.bytes(b"A");
+            }
+            page.bytes(b"\"},\n");
+        }
+    }
+}
+
+/// Adds a link.
+fn add_link(page: &mut Page, link: &Link) {
+    say!(page; " {path=\"", link.place.as_slice(), "\", kind=\"link\", target=\"", link.target.as_slice(), "\"},\n");
+}
+
+/// The name of a side in a task.
+fn side_name(side: Side) -> &'static str {
+    match side {
+        Side::A => "a",
+        Side::B => "b",
+    }
+}
+
+/// Adds an end of a pair.
+fn add_end(page: &mut Page, number: usize, pair: usize, side: Side) {
+    say!(page; "{number=", number, ", pair=", pair, ", side=\"", side_name(side), "\"}");
+}
+
+impl Draft {
+    /// Of programs, of what they ask of the world, and of a tree.
+    pub(crate) fn new(room: &Room, programs: Vec<Program>, needs: Vec<Need>, tree: Tree) -> Draft {
+        Draft {
+            programs,
+            needs,
+            tree,
+            pairs: room.list(),
+        }
+    }
+
+    /// The number of a pair that is there from the start.
+    fn pair_of(&mut self, room: &mut Room, origin: Origin) -> usize {
+        for (at, own) in self.pairs.iter().enumerate() {
+            if *own == origin {
+                return at;
+            }
+        }
+        room.push(&mut self.pairs, origin);
+        self.pairs.len().saturating_sub(1)
+    }
+
+    /// Which pair a descriptor is an end of, if it is one, and of which side.
+    fn end_of(&mut self, room: &mut Room, program: usize, at: usize) -> Option<(usize, Side)> {
+        let held = self.programs.get(program)?.table.held.get(at)?;
+        let (origin, side) = match held.holding {
+            Holding::Node(_) => return None,
+            Holding::World { first } => (Origin::World { program, first }, Side::A),
+            Holding::End { pair, side } => (Origin::Recorded(pair), side),
+        };
+        Some((self.pair_of(room, origin), side))
+    }
+
+    /// Adds a descriptor of a node.
+    fn add_place(&self, page: &mut Page, number: u8, place: &[u8]) {
+        say!(page; "{number=", number, ", path=\"", place, "\"");
+        let node = self
+            .tree
+            .number_of(place)
+            .and_then(|at| self.tree.nodes.get(at));
+        if node.is_some_and(|node| node.first == Presence::File) {
+            page.bytes(b", flags=[\"read\", \"write\"]");
+        }
+        page.bytes(b"}");
+    }
+
+    /// Adds a descriptor of a program's process.
+    fn add_descriptor(&mut self, room: &mut Room, page: &mut Page, program: usize, at: usize) {
+        if at > 0 {
+            page.bytes(b", ");
+        }
+        let end = self.end_of(room, program, at);
+        let held = self
+            .programs
+            .get(program)
+            .and_then(|program| program.table.held.get(at));
+        match (held, end) {
+            (Some(held), Some((pair, side))) => {
+                add_end(page, usize::from(held.number), pair, side);
+            }
+            (
+                Some(
+                    Held {
+                        number,
+                        holding: Holding::Node(place),
+                        ..
+                    },
+                ),
+                None,
+            ) => self.add_place(page, *number, place),
+            _ => {}
+        }
+    }
+
+    /// Adds the first process of a program.
+    fn add_process(&mut self, room: &mut Room, page: &mut Page, program: usize) {
+        let (count, name) = match self.programs.get(program) {
+            Some(own) => (own.table.held.len(), room.copy(&own.name)),
+            None => return,
+        };
+        say!(page; " {program=\"", name.as_slice(), "\", fd=[");
+        for at in 0..count {
+            self.add_descriptor(room, page, program, at);
+        }
+        page.bytes(b"]},\n");
+    }
+
+    /// The ends that the world has.
+    fn world_ends(&self, room: &mut Room) -> Vec<WorldEnd> {
+        let mut ends = room.list();
+        for origin in &self.pairs {
+            if let Origin::World { program, first } = *origin {
+                let number = ends.len();
+                let need = need_of(&self.needs, program, first);
+                room.push(&mut ends, WorldEnd { number, need });
+            }
+        }
+        ends
+    }
+
+    /// Whether the world moves something, for which it has the root.
+    fn moves(&self) -> bool {
+        for change in &self.tree.changes {
+            if change.deed == Deed::Moves {
+                return true;
+            }
+        }
+        false
+    }
+
+    /// Adds the process of the world.
+    fn add_world(&self, page: &mut Page) {
+        page.bytes(b" {program=\"world\", fd=[");
+        let mut number = 0usize;
+        for (pair, origin) in self.pairs.iter().enumerate() {
+            if matches!(origin, Origin::World { .. }) {
+                if number > 0 {
+                    page.bytes(b", ");
+                }
+                add_end(page, number, pair, Side::B);
+                number = number.saturating_add(1);
+            }
+        }
+        if self.moves() {
+            if number > 0 {
+                page.bytes(b", ");
+            }
+            say!(page; "{number=", number, ", path=\"/\"}");
+        }
+        page.bytes(b"]}]\n");
+    }
+
+    /// Adds the tree.
+    fn add_tree(&self, page: &mut Page) {
+        page.bytes(b"node = [\n");
+        for node in &self.tree.nodes {
+            add_node(page, node);
+        }
+        for link in &self.tree.links {
+            add_link(page, link);
+        }
+        page.bytes(b"]\n");
+    }
+
+    /// Adds a program.
+    fn add_program(&self, page: &mut Page, name: &[u8], code: &[u8]) {
+        say!(page; "\n[[program]]\nname = \"", name, "\"\ncode = '''\n", code, "'''\n");
+    }
+
+    /// Adds the task.
+    pub(crate) fn add(&mut self, room: &mut Room, page: &mut Page) {
+        self.add_tree(page);
+        page.bytes(b"grant = []\nprocess = [\n");
+        for program in 0..self.programs.len() {
+            self.add_process(room, page, program);
+        }
+        self.add_world(page);
+        for program in &self.programs {
+            self.add_program(page, &program.name, &program.code.text);
+        }
+        let ends = self.world_ends(room);
+        let world = world_code(room, &ends, &self.tree, ends.len());
+        self.add_program(page, b"world", &world);
+    }
+}

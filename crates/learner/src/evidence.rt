@@ -1,0 +1,185 @@
+//! What the calls of a record tell of the tree.
+
+use crate::calls::{
+    ROOT, answer_of, creates, fails_with, number_at, path_at, path_place, place_of,
+    removes_directory,
+};
+use crate::places::{above, last_name, place_at};
+use crate::room::Room;
+use crate::trees::{Presence, Tree};
+use records::{Entry, Event, MadeCall};
+use rights::{Call, Errno};
+
+/// The place of the directory from which the path in a place goes on, if it is known.
+fn directory_of(made: &MadeCall, at: usize) -> Option<&[u8]> {
+    if at == 0 {
+        return Some(b"/");
+    }
+    let number = number_at(made, at - 1)?;
+    if number == ROOT {
+        Some(b"/")
+    } else {
+        place_of(made, number)
+    }
+}
+
+/// The place that a path of a call leads to, if that is known.
+pub(crate) fn place_in(
+    room: &mut Room,
+    tree: &Tree,
+    made: &MadeCall,
+    at: usize,
+) -> Option<Vec<u8>> {
+    let path = path_at(made, at)?;
+    if path.is_empty() {
+        return None;
+    }
+    let directory = match directory_of(made, at) {
+        Some(directory) => directory,
+        None => {
+            if path.first() != Some(&b'/') {
+                return None;
+            }
+            b"/"
+        }
+    };
+    Some(tree.resolve(room, directory, path))
+}
+
+/// Notes the link by which a path led to another place.
+fn add_link(room: &mut Room, tree: &mut Tree, path: &[u8], place: &[u8]) {
+    let mut from = path;
+    let mut to = place;
+    for _ in 0..path.len() {
+        if last_name(from) != last_name(to) || above(from) == b"/".as_slice() {
+            break;
+        }
+        from = above(from);
+        to = above(to);
+    }
+    if from != to && place.first() == Some(&b'/') {
+        tree.linked(room, from, to);
+    }
+}
+
+/// Notes the link by which an open led to another place.
+fn add_link_of(room: &mut Room, tree: &mut Tree, made: &MadeCall) {
+    if !matches!(made.call, Call::Open | Call::Openat) {
+        return;
+    }
+    let at = path_place(made.call).unwrap_or(0);
+    let Some(path) = place_in(room, tree, made, at) else {
+        return;
+    };
+    if let Some(place) = answer_of(made).and_then(|answer| place_of(made, answer)) {
+        add_link(room, tree, &path, place);
+    }
+}
+
+/// Notes the links by which the opens of a record led to other places.
+pub(crate) fn add_links(room: &mut Room, tree: &mut Tree, entries: &[Entry]) {
+    for entry in entries {
+        if let Event::Called(made) = &entry.event {
+            add_link_of(room, tree, made);
+        }
+    }
+}
+
+/// What is told by a call that succeeded at a place.
+fn add_success(room: &mut Room, tree: &mut Tree, made: &MadeCall, place: &[u8]) {
+    match made.call {
+        Call::Open | Call::Openat => {
+            if creates(made) {
+                tree.made(room, place, Presence::File, true);
+            } else {
+                tree.there(room, place, Presence::File);
+            }
+        }
+        Call::Mkdir | Call::Mkdirat => tree.made(room, place, Presence::Directory, false),
+        Call::Unlink | Call::Unlinkat => {
+            let presence = if removes_directory(made) {
+                Presence::Directory
+            } else {
+                Presence::File
+            };
+            tree.removed(room, place, presence);
+        }
+        _ => tree.there(room, place, Presence::File),
+    }
+}
+
+/// What is told by a call that failed at a place.
+fn add_failure(room: &mut Room, tree: &mut Tree, made: &MadeCall, place: &[u8]) {
+    let is_making = matches!(made.call, Call::Mkdir | Call::Mkdirat) || creates(made);
+    if fails_with(made, Errno::ENOENT) {
+        if is_making {
+            tree.absent_above(room, place);
+        } else {
+            tree.absent(room, place);
+        }
+    }
+    if fails_with(made, Errno::EEXIST) || fails_with(made, Errno::EISDIR) {
+        tree.there(room, place, Presence::Directory);
+    }
+    if fails_with(made, Errno::ENOTEMPTY) {
+        tree.there(room, place, Presence::Directory);
+        if !tree.holds_something(place) {
+            let inside = place_at(room, place, b"other");
+            tree.there(room, &inside, Presence::File);
+        }
+    }
+}
+
+/// What is told by a rename from one place to another.
+fn add_move(room: &mut Room, tree: &mut Tree, made: &MadeCall, from: &[u8], to: &[u8]) {
+    if fails_with(made, Errno::ENOENT) {
+        tree.absent(room, from);
+    }
+    if answer_of(made).is_some() {
+        if number_at(made, 0) == Some(ROOT) || number_at(made, 2) == Some(ROOT) {
+            tree.moved_by_other(room, from, to);
+        } else {
+            tree.moved(room, from, to);
+        }
+    }
+}
+
+/// Notes that the directory is there from which a call goes on.
+fn add_directory(room: &mut Room, tree: &mut Tree, made: &MadeCall) {
+    if path_place(made.call) == Some(1) {
+        if let Some(directory) = directory_of(made, 1) {
+            let place = tree.resolve(room, b"/", directory);
+            tree.there(room, &place, Presence::Directory);
+        }
+    }
+}
+
+/// What is told by a call.
+fn add_call(room: &mut Room, tree: &mut Tree, made: &MadeCall) {
+    let Some(at) = path_place(made.call) else {
+        return;
+    };
+    add_directory(room, tree, made);
+    let Some(place) = place_in(room, tree, made, at) else {
+        return;
+    };
+    if made.call == Call::Renameat {
+        if let Some(target) = place_in(room, tree, made, 3) {
+            add_move(room, tree, made, &place, &target);
+        }
+    } else if answer_of(made).is_some() {
+        add_success(room, tree, made, &place);
+    } else {
+        add_failure(room, tree, made, &place);
+    }
+}
+
+/// What is told by the calls of a record, one after another.
+pub(crate) fn add_evidence(room: &mut Room, tree: &mut Tree, entries: &[Entry]) {
+    tree.rewind();
+    for entry in entries {
+        if let Event::Called(made) = &entry.event {
+            add_call(room, tree, made);
+        }
+    }
+}

@@ -1,0 +1,266 @@
+//! A task, of recorded runs.
+
+use crate::accounts::messages_of;
+use crate::codes::code_of;
+use crate::drafts::{Draft, Program};
+use crate::evidence::{add_evidence, add_links};
+use crate::needs::Need;
+use crate::readings::offsets_of;
+use crate::room::Room;
+use crate::running::{Course, Learning, Level};
+use crate::starts::first_table;
+use crate::tables::Table;
+use crate::trees::Tree;
+use records::{Entry, Reason, first_processes};
+use rights::Memory;
+use rights::limits::MAX_PROCESSES;
+use std::alloc::Global;
+use texts::{Page, Say, parts_of, say};
+
+/// Why nothing is learnt.
+#[derive(Clone, Copy, PartialEq, Eq)]
+pub enum LearnFault {
+    Memory,
+    /// A program would have more than 256 instructions, however little is remembered.
+    Points,
+    /// A process holds more than 16 descriptors.
+    Descriptors,
+    /// No process makes a call.
+    Nothing,
+}
+
+impl From<Memory> for LearnFault {
+    fn from(_: Memory) -> LearnFault {
+        LearnFault::Memory
+    }
+}
+
+/// Why calls are left out, in the order of the last line of recorded calls.
+const REASONS: [Reason; 6] = [
+    Reason::Loader,
+    Reason::Quiet,
+    Reason::Global,
+    Reason::Right,
+    Reason::Unknown,
+    Reason::Name,
+];
+
+/// What is learnt on the way.
+#[derive(Drop)]
+struct Lessons {
+    programs: Vec<Program>,
+    needs: Vec<Need>,
+    left_out: usize,
+    unseen: usize,
+    fits: bool,
+    is_over: bool,
+}
+
+/// The tree that records tell of.
+fn tree_of(room: &mut Room, records: &[Vec<Entry>]) -> Tree {
+    let mut tree = Tree::new(room);
+    for entries in records {
+        add_links(room, &mut tree, entries);
+    }
+    for entries in records {
+        add_evidence(room, &mut tree, entries);
+    }
+    for entries in records {
+        offsets_of(room, &mut tree, entries);
+    }
+    tree
+}
+
+/// The name of a program by its place.
+fn name_of(room: &mut Room, program: usize) -> Vec<u8> {
+    if program == 0 {
+        room.copy(b"main")
+    } else {
+        room.text(parts_of!("main", program.saturating_add(1)))
+    }
+}
+
+/// Learns the program of a record's first process, of the first processes that have this place in their records.
+fn learn_program(
+    room: &mut Room,
+    tree: &mut Tree,
+    records: &[Vec<Entry>],
+    level: Level,
+    program: usize,
+) -> Result<Option<(Learning, Table)>, Memory> {
+    let mut learning = Learning::new(room);
+    let mut first = None;
+    for entries in records {
+        let processes = first_processes(room.alloc(), entries)?;
+        let Some(process) = processes.get(program) else {
+            continue;
+        };
+        let messages = messages_of(room, entries);
+        let offsets = offsets_of(room, tree, entries);
+        let table = first_table(room, tree, entries, *process);
+        table.note_places(room, tree);
+        if first.is_none() {
+            first = Some(table.copy(room));
+        }
+        let course = Course {
+            entries,
+            messages: &messages,
+            offsets: &offsets,
+            tree,
+            level,
+            program,
+        };
+        learning.run(room, &course, *process, table);
+    }
+    Ok(first.map(|table| (learning, table)))
+}
+
+impl Lessons {
+    /// Adds a program.
+    fn add(&mut self, room: &mut Room, learning: Learning, table: Table) {
+        let code = code_of(room, &learning.automaton);
+        self.fits = self.fits && code.fits() && !learning.automaton.is_full;
+        self.is_over = self.is_over || learning.is_over;
+        self.left_out = self.left_out.saturating_add(learning.left_out);
+        self.unseen = self.unseen.saturating_add(code.unseen);
+        let name = name_of(room, self.programs.len());
+        for need in &learning.needs {
+            room.push(&mut self.needs, *need);
+        }
+        room.push(&mut self.programs, Program { name, code, table });
+    }
+}
+
+/// Learns all programs.
+fn learn_programs(
+    room: &mut Room,
+    tree: &mut Tree,
+    records: &[Vec<Entry>],
+    level: Level,
+) -> Result<Lessons, Memory> {
+    let mut lessons = Lessons {
+        programs: room.list(),
+        needs: room.list(),
+        left_out: 0,
+        unseen: 0,
+        fits: true,
+        is_over: false,
+    };
+    for program in 0..MAX_PROCESSES {
+        match learn_program(room, tree, records, level, program)? {
+            Some((learning, table)) => lessons.add(room, learning, table),
+            None => break,
+        }
+    }
+    Ok(lessons)
+}
+
+/// How many entries of records are left out for a reason.
+fn left_out(records: &[Vec<Entry>], reason: Reason) -> usize {
+    let mut count = 0usize;
+    for entries in records {
+        for entry in entries {
+            if entry.event.is_left_out(reason) {
+                count = count.saturating_add(1);
+            }
+        }
+    }
+    count
+}
+
+/// How many entries of records are calls.
+fn calls_in(records: &[Vec<Entry>]) -> usize {
+    let mut count = 0usize;
+    for entries in records {
+        for entry in entries {
+            if entry.event.is_call() {
+                count = count.saturating_add(1);
+            }
+        }
+    }
+    count
+}
+
+/// Adds how many calls there were, and how many are left out.
+fn add_counts(page: &mut Page, records: &[Vec<Entry>]) {
+    say!(page; "# Learnt of ", calls_in(records), " calls. Left out:");
+    for reason in REASONS {
+        say!(page; " ", reason.name(), " ", left_out(records, reason));
+    }
+    page.bytes(b".\n");
+}
+
+/// Where a program stands at a level.
+fn meaning_of(level: Level) -> &'static str {
+    match level {
+        Level::LastCall => "what its process holds and its last call",
+        Level::Table =>
+            "what its process holds; with its last call there would be too many instructions",
+        Level::Numbers =>
+            "at which numbers its process holds something; with what that is there would be too many instructions",
+    }
+}
+
+/// Adds what is told of how it was learnt.
+fn add_head(page: &mut Page, records: &[Vec<Entry>], lessons: &Lessons, level: Level) {
+    add_counts(page, records);
+    say!(page; "# Where a program stands is ", meaning_of(level), ".\n");
+    say!(page; "# Calls of which no failure was seen, so that one leads to the end: ", lessons.unseen, ".\n");
+    if lessons.left_out > 0 {
+        say!(page; "# Calls that aren't here, by a descriptor of which nothing is known or a path that assembly can't have: ", lessons.left_out, ".\n");
+    }
+    page.bytes(
+        b"# The process of `world` is whoever the record talks to: any of its acts comes at any time.\n",
+    );
+}
+
+/// The text of what was learnt.
+fn text_of(
+    room: &mut Room,
+    records: &[Vec<Entry>],
+    tree: Tree,
+    lessons: Lessons,
+    level: Level,
+) -> Vec<u8> {
+    let mut page = Page::new(room.alloc());
+    add_head(&mut page, records, &lessons, level);
+    let mut draft = Draft::new(room, lessons.programs, lessons.needs, tree);
+    draft.add(room, &mut page);
+    room.bytes(page)
+}
+
+/// A task at a level, if it fits.
+fn learn_at(room: &mut Room, records: &[Vec<Entry>], level: Level) -> Result<Vec<u8>, LearnFault> {
+    let mut tree = tree_of(room, records);
+    let lessons = learn_programs(room, &mut tree, records, level)?;
+    if room.is_short() {
+        return Err(LearnFault::Memory);
+    }
+    if lessons.programs.is_empty() {
+        return Err(LearnFault::Nothing);
+    }
+    if lessons.is_over {
+        return Err(LearnFault::Descriptors);
+    }
+    if !lessons.fits {
+        return Err(LearnFault::Points);
+    }
+    let text = text_of(room, records, tree, lessons, level);
+    if room.is_short() {
+        return Err(LearnFault::Memory);
+    }
+    Ok(text)
+}
+
+/// The text of a task, of the calls of runs of one program: the tree, the processes and the programs that they show. Nothing is claimed of
+/// it: whether the records follow it is to be asked. (own)
+pub fn learn(alloc: Global, records: &[Vec<Entry>]) -> Result<Vec<u8>, LearnFault> {
+    let mut room = Room::new(alloc);
+    for level in [Level::LastCall, Level::Table] {
+        match learn_at(&mut room, records, level) {
+            Err(LearnFault::Points) => {}
+            learnt => return learnt,
+        }
+    }
+    learn_at(&mut room, records, Level::Numbers)
+}

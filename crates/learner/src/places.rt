@@ -1,0 +1,86 @@
+//! Places of a tree as texts: `/`, or names with a slash in front of each.
+
+use crate::room::Room;
+use texts::first_part;
+
+/// The place above another one; of `/` it is `/`.
+pub(crate) fn above(place: &[u8]) -> &[u8] {
+    for at in (1..place.len()).rev() {
+        if place[at] == b'/' {
+            return &place[..at];
+        }
+    }
+    b"/"
+}
+
+/// The last name of a place or a path.
+pub(crate) fn last_name(place: &[u8]) -> &[u8] {
+    for at in (0..place.len()).rev() {
+        if place[at] == b'/' {
+            return &place[at + 1..];
+        }
+    }
+    place
+}
+
+/// What stands behind a place in one beneath it, with its slash, or nothing where it is the place itself.
+pub(crate) fn behind<'a>(place: &[u8], beneath: &'a [u8]) -> Option<&'a [u8]> {
+    match beneath.strip_prefix(place) {
+        Some(rest) => {
+            if rest.is_empty() || rest.first() == Some(&b'/') {
+                Some(rest)
+            } else {
+                None
+            }
+        }
+        None => None,
+    }
+}
+
+/// Goes up by a name.
+fn drop_name(place: &mut Vec<u8>) {
+    let length = above(place).len();
+    if length > 1 {
+        place.truncate(length);
+    } else {
+        place.clear();
+    }
+}
+
+/// Goes on by a name of a path.
+fn add_name(room: &mut Room, place: &mut Vec<u8>, name: &[u8]) {
+    match name {
+        [] | [b'.'] => {}
+        [b'.', b'.'] => drop_name(place),
+        _ => {
+            room.push(place, b'/');
+            room.extend(place, name);
+        }
+    }
+}
+
+/// Goes on by the names of a path.
+fn add_names(room: &mut Room, place: &mut Vec<u8>, path: &[u8]) {
+    let mut rest = Some(path);
+    for _ in 0..=path.len() {
+        let Some(text) = rest else {
+            break;
+        };
+        let (name, others) = first_part(text, b'/');
+        add_name(room, place, name);
+        rest = others;
+    }
+}
+
+/// The place at which a path leads from a directory, links aside.
+pub(crate) fn place_at(room: &mut Room, directory: &[u8], path: &[u8]) -> Vec<u8> {
+    let mut place = room.list();
+    if path.first() != Some(&b'/') {
+        add_names(room, &mut place, directory);
+    }
+    add_names(room, &mut place, path);
+    if place.is_empty() {
+        room.push(&mut place, b'/');
+    }
+    place
+}

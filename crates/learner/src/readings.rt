@@ -1,0 +1,222 @@
+//! How much of each file a record reads.
+
+use crate::calls::{answer_of, number_at, place_of};
+use crate::room::Room;
+use crate::trees::Tree;
+use records::{Entry, Event, MadeCall};
+use rights::Call;
+
+/// How far a file was read: in the record's bytes, and in reads, which are the task's bytes.
+#[derive(Clone, Copy)]
+struct Progress {
+    position: u32,
+    count: u32,
+}
+
+/// A file that was opened: how far it is read, and how far it was at most.
+#[derive(Drop)]
+struct Reading {
+    place: Vec<u8>,
+    now: Progress,
+    furthest: Progress,
+}
+
+/// Before the first byte.
+const BEGINNING: Progress = Progress {
+    position: 0,
+    count: 0,
+};
+
+impl Reading {
+    /// Goes on by a read of so many bytes.
+    fn read(&mut self, bytes: u32) {
+        if bytes > 0 {
+            self.now.position = self.now.position.saturating_add(bytes);
+            self.now.count = self.now.count.saturating_add(1);
+        }
+        if self.now.count > self.furthest.count {
+            self.furthest = self.now;
+        }
+    }
+
+    /// Goes to a position of the record's. The offset in the task is told: the beginning where none is known for it.
+    fn seek(&mut self, position: u32) -> u32 {
+        if position == self.furthest.position {
+            self.now = self.furthest;
+        } else if position != self.now.position {
+            self.now = Progress { position, count: 0 };
+        }
+        self.now.count
+    }
+}
+
+/// A descriptor of a process, and which of the files that were opened it is of.
+#[derive(Clone, Copy)]
+struct Reader {
+    process: u32,
+    number: u32,
+    reading: usize,
+}
+
+/// What was opened so far.
+#[derive(Drop)]
+struct Readings {
+    readings: Vec<Reading>,
+    readers: Vec<Reader>,
+}
+
+impl Readings {
+    /// Which reader a descriptor is.
+    fn position(&self, process: u32, number: u32) -> Option<usize> {
+        for (at, reader) in self.readers.iter().enumerate() {
+            if reader.process == process && reader.number == number {
+                return Some(at);
+            }
+        }
+        None
+    }
+
+    /// Which file a descriptor is of.
+    fn reading_of(&self, process: u32, number: u32) -> Option<usize> {
+        let at = self.position(process, number)?;
+        Some(self.readers.get(at)?.reading)
+    }
+
+    /// Notes that a descriptor is closed.
+    fn close(&mut self, process: u32, number: u32) {
+        if let Some(at) = self.position(process, number) {
+            if at < self.readers.len() {
+                self.readers.swap_remove(at);
+            }
+        }
+    }
+
+    /// Notes which file a new descriptor is of.
+    fn bind(&mut self, room: &mut Room, process: u32, number: u32, reading: usize) {
+        self.close(process, number);
+        room.push(
+            &mut self.readers,
+            Reader {
+                process,
+                number,
+                reading,
+            },
+        );
+    }
+
+    /// Notes that a file was opened as a descriptor.
+    fn open(&mut self, room: &mut Room, tree: &Tree, made: &MadeCall, process: u32, number: u32) {
+        self.close(process, number);
+        if let Some(place) = place_of(made, number) {
+            let place = tree.resolve(room, b"/", place);
+            let reading = self.readings.len();
+            self.bind(room, process, number, reading);
+            room.push(
+                &mut self.readings,
+                Reading {
+                    place,
+                    now: BEGINNING,
+                    furthest: BEGINNING,
+                },
+            );
+        }
+    }
+
+    /// Notes that a new process has what another one has.
+    fn fork(&mut self, room: &mut Room, process: u32, child: u32) {
+        for at in 0..self.readers.len() {
+            if let Some(reader) = self.readers.get(at) {
+                let reader = *reader;
+                if reader.process == process {
+                    self.bind(room, child, reader.number, reader.reading);
+                }
+            }
+        }
+    }
+
+    /// Notes how many bytes came.
+    fn read(&mut self, tree: &mut Tree, reading: usize, bytes: u32) {
+        if let Some(reading) = self.readings.get_mut(reading) {
+            reading.read(bytes);
+            tree.read(&reading.place, reading.now.count as usize);
+        }
+    }
+
+    /// Goes to a position. The offset in the task is told.
+    fn seek(&mut self, reading: usize, position: u32) -> u32 {
+        match self.readings.get_mut(reading) {
+            Some(reading) => reading.seek(position),
+            None => 0,
+        }
+    }
+
+    /// The file that the descriptor of a call is of; one that the process had from the start is noted.
+    fn own(
+        &mut self,
+        room: &mut Room,
+        tree: &Tree,
+        made: &MadeCall,
+        process: u32,
+    ) -> Option<usize> {
+        let number = number_at(made, 0)?;
+        if self.position(process, number).is_none() {
+            self.open(room, tree, made, process, number);
+        }
+        self.reading_of(process, number)
+    }
+
+    /// Notes a call that succeeded with this answer. The offset to which it goes in the task is told, or 0.
+    fn add(
+        &mut self,
+        room: &mut Room,
+        tree: &mut Tree,
+        made: &MadeCall,
+        process: u32,
+        answer: u32,
+    ) -> u32 {
+        match made.call {
+            Call::Open | Call::Openat | Call::Recvfd => {
+                self.open(room, tree, made, process, answer);
+            }
+            Call::Dup => {
+                if let Some(reading) = self.own(room, tree, made, process) {
+                    self.bind(room, process, answer, reading);
+                }
+            }
+            Call::Close => self.close(process, number_at(made, 0).unwrap_or(answer)),
+            Call::Fork => self.fork(room, process, answer),
+            Call::Read => {
+                if let Some(reading) = self.own(room, tree, made, process) {
+                    self.read(tree, reading, answer);
+                }
+            }
+            Call::Lseek => {
+                if let Some(reading) = self.own(room, tree, made, process) {
+                    return self.seek(reading, answer);
+                }
+            }
+            _ => {}
+        }
+        0
+    }
+}
+
+/// Notes in the tree how many reads of each file come one after another, and tells for each entry the offset to which it goes in the task,
+/// where it goes to one, and else 0.
+pub(crate) fn offsets_of(room: &mut Room, tree: &mut Tree, entries: &[Entry]) -> Vec<u32> {
+    let mut readings = Readings {
+        readings: room.list(),
+        readers: room.list(),
+    };
+    let mut offsets = room.list();
+    for entry in entries {
+        let mut offset = 0u32;
+        if let Event::Called(made) = &entry.event {
+            if let Some(answer) = answer_of(made) {
+                offset = readings.add(room, tree, made, entry.process, answer);
+            }
+        }
+        room.push(&mut offsets, offset);
+    }
+    offsets
+}

@@ -1,0 +1,382 @@
+//! The processes of a record, run through the calls that they made, and the automaton that comes of it.
+
+use crate::assembly::{assembly_of, subject_of};
+use crate::automata::{Arrival, Automaton, Step};
+use crate::calls::{answer_of, end_of, makes_descriptor, number_at, path_at, path_place, place_of};
+use crate::evidence::place_in;
+use crate::needs::{Need, add_need};
+use crate::room::Room;
+use crate::tables::{Holding, Table};
+use crate::trees::Tree;
+use records::{Binding, Entry, Event, MadeCall};
+use rights::{Call, Side};
+use texts::{Page, Say, parts_of, say};
+
+/// What is remembered in a state.
+#[derive(Clone, Copy, PartialEq, Eq)]
+pub(crate) enum Level {
+    /// What the process holds, its last call, and whether that succeeded.
+    LastCall,
+    /// What the process holds.
+    Table,
+    /// At which numbers it holds a node or an end.
+    Numbers,
+}
+
+/// A process on its way.
+#[derive(Drop)]
+pub(crate) struct Running {
+    /// Its number in the record.
+    pub process: u32,
+    pub table: Table,
+    pub in_mode: bool,
+    pub state: usize,
+}
+
+/// What the processes are run through.
+#[derive(Clone, Copy)]
+pub(crate) struct Course<'a> {
+    pub entries: &'a [Entry],
+    /// For each entry, how many messages it is.
+    pub messages: &'a [u32],
+    /// For each entry, the offset to which it goes.
+    pub offsets: &'a [u32],
+    pub tree: &'a Tree,
+    pub level: Level,
+    /// The program's place among the programs.
+    pub program: usize,
+}
+
+/// What is learnt of it.
+#[derive(Drop)]
+pub(crate) struct Learning {
+    pub automaton: Automaton,
+    pub needs: Vec<Need>,
+    /// How many calls are left out since one of their descriptors stands for nothing, or their path can't be written.
+    pub left_out: usize,
+    /// A process held more descriptors than one may.
+    pub is_over: bool,
+    /// The processes that were forked and weren't run yet.
+    forked: Vec<Running>,
+}
+
+/// What a new descriptor is of: as the record tells it, else where the call's path leads.
+fn holding_of(room: &mut Room, tree: &Tree, made: &MadeCall, answer: u32) -> Holding {
+    if let Some(place) = place_of(made, answer) {
+        return Holding::Node(tree.resolve(room, b"/", place));
+    }
+    if let Some(end) = end_of(made, answer) {
+        return if end.pair == 0 {
+            Holding::World { first: 0 }
+        } else {
+            Holding::End {
+                pair: end.pair,
+                side: end.side,
+            }
+        };
+    }
+    match path_place(made.call).and_then(|at| place_in(room, tree, made, at)) {
+        Some(place) => Holding::Node(place),
+        None => Holding::World { first: 0 },
+    }
+}
+
+/// The place of what a call opens, unless its path says that.
+fn opened(room: &mut Room, made: &MadeCall) -> Vec<u8> {
+    let place = answer_of(made)
+        .filter(|_| makes_descriptor(made.call) && made.call != Call::Dup)
+        .and_then(|answer| place_of(made, answer));
+    match place {
+        Some(place) if path_at(made, 0) != Some(place) => room.copy(place),
+        _ => room.list(),
+    }
+}
+
+/// The number of the second end of a pair that a call made, and the pair.
+fn second_end(made: &MadeCall, answer: u32) -> Option<(u32, u32)> {
+    for binding in &made.bindings {
+        if let Binding::End {
+            descriptor,
+            pair,
+            ..
+        } = binding
+        {
+            if *descriptor != answer {
+                return Some((*descriptor, *pair));
+            }
+        }
+    }
+    None
+}
+
+impl Running {
+    /// The same, with what it holds at this call, as a new process in a state.
+    fn forked(&self, room: &mut Room, process: u32, state: usize) -> Running {
+        Running {
+            process,
+            table: self.table.copy(room),
+            in_mode: self.in_mode,
+            state,
+        }
+    }
+
+    /// Takes a new descriptor. Whether there is a number for it is told.
+    fn take(&mut self, room: &mut Room, real: u32, holding: Holding) -> bool {
+        match self.table.lowest_free() {
+            Some(number) => {
+                self.table.put(room, number, real, holding);
+                true
+            }
+            None => false,
+        }
+    }
+
+    /// Takes both ends of a new pair. Whether there are numbers for them is told.
+    fn take_pair(&mut self, room: &mut Room, made: &MadeCall, answer: u32) -> bool {
+        let (second, pair) = second_end(made, answer).unwrap_or((answer, answer));
+        let first = Holding::End {
+            pair,
+            side: Side::A,
+        };
+        let other = Holding::End {
+            pair,
+            side: Side::B,
+        };
+        self.take(room, answer, first) && self.take(room, second, other)
+    }
+
+    /// Takes a copy of a descriptor. Whether there is a number for it is told.
+    fn take_copy(&mut self, room: &mut Room, real: u32, answer: u32) -> bool {
+        match self.table.lowest_free() {
+            Some(number) => {
+                self.table.duplicate(room, real, number, answer);
+                true
+            }
+            None => false,
+        }
+    }
+
+    /// Goes on by a call that succeeded with this answer. Whether there are numbers for its descriptors is told.
+    fn go_on(
+        &mut self,
+        room: &mut Room,
+        tree: &Tree,
+        made: &MadeCall,
+        text: &[u8],
+        answer: u32,
+    ) -> bool {
+        let given = number_at(made, 0).unwrap_or(answer);
+        match made.call {
+            Call::Open | Call::Openat | Call::Recvfd => {
+                let holding = holding_of(room, tree, made, answer);
+                return self.take(room, answer, holding);
+            }
+            Call::Dup => return self.take_copy(room, given, answer),
+            Call::Socketpair => return self.take_pair(room, made, answer),
+            Call::Close => self.table.close(given),
+            Call::CapRightsLimit | Call::CapFcntlsLimit => self.table.limit(room, given, text),
+            Call::CapEnter => self.in_mode = true,
+            _ => {}
+        }
+        true
+    }
+}
+
+impl<'a> Course<'a> {
+    /// What tells the state from others in which a process stands behind a call.
+    fn key(&self, room: &mut Room, running: &Running, last: &[u8], arrival: Arrival) -> Vec<u8> {
+        let mut page = Page::new(room.alloc());
+        if self.level == Level::Numbers {
+            running.table.add_kinds(&mut page);
+        } else {
+            running.table.add_key(&mut page);
+        }
+        if running.in_mode {
+            page.bytes(b"mode\n");
+        }
+        if self.level == Level::LastCall {
+            let arrival = match arrival {
+                Arrival::Success => "done ",
+                Arrival::Failure => "failed ",
+                Arrival::Child => "child ",
+            };
+            say!(&mut page; arrival, last);
+        }
+        room.bytes(page)
+    }
+
+    /// The offset to which an entry goes.
+    fn offset_of(&self, at: usize) -> u32 {
+        match self.offsets.get(at) {
+            Some(offset) => *offset,
+            None => 0,
+        }
+    }
+
+    /// How many messages an entry is: one at least.
+    fn messages_of(&self, at: usize) -> u32 {
+        match self.messages.get(at) {
+            Some(messages) => (*messages).max(1),
+            None => 1,
+        }
+    }
+}
+
+impl Learning {
+    /// Nothing yet.
+    pub(crate) fn new(room: &Room) -> Learning {
+        Learning {
+            automaton: Automaton::new(room),
+            needs: room.list(),
+            left_out: 0,
+            is_over: false,
+            forked: room.list(),
+        }
+    }
+
+    /// The state behind a call.
+    fn next(
+        &mut self,
+        room: &mut Room,
+        course: &Course<'_>,
+        running: &Running,
+        text: &[u8],
+        arrival: Arrival,
+    ) -> usize {
+        let key = course.key(room, running, text, arrival);
+        self.automaton.at(room, key)
+    }
+
+    /// Notes that a call has come back so, and gives the state behind it.
+    fn arrive(
+        &mut self,
+        room: &mut Room,
+        course: &Course<'_>,
+        running: &Running,
+        from: &Step,
+        arrival: Arrival,
+    ) -> usize {
+        let next = self.next(room, course, running, &from.text, arrival);
+        let step = Step {
+            text: room.copy(&from.text),
+            call: from.call,
+            about: room.copy(&from.about),
+            line: from.line,
+            place: room.copy(&from.place),
+        };
+        self.automaton.add(room, running.state, step, arrival, next);
+        next
+    }
+
+    /// Notes that a process was made.
+    fn fork(
+        &mut self,
+        room: &mut Room,
+        course: &Course<'_>,
+        running: &Running,
+        step: &Step,
+        child: u32,
+    ) {
+        let state = self.arrive(room, course, running, step, Arrival::Child);
+        let forked = running.forked(room, child, state);
+        room.push(&mut self.forked, forked);
+    }
+
+    /// Notes what a call asks of the world.
+    fn note_need(&mut self, room: &mut Room, course: &Course<'_>, table: &Table, made: &MadeCall) {
+        let held = number_at(made, 0).and_then(|number| table.of(number));
+        if let Some(Holding::World { first }) = held.map(|held| &held.holding) {
+            add_need(room, &mut self.needs, course.program, *first, made);
+        }
+    }
+
+    /// Goes on by a call of a process.
+    fn step(
+        &mut self,
+        room: &mut Room,
+        course: &Course<'_>,
+        running: &mut Running,
+        made: &MadeCall,
+        at: usize,
+        line: u32,
+    ) {
+        let Some(text) = assembly_of(room, &running.table, made, course.offset_of(at)) else {
+            self.left_out = self.left_out.saturating_add(1);
+            return;
+        };
+        let step = Step {
+            about: subject_of(room, &running.table, made),
+            call: made.call.name(),
+            text,
+            line,
+            place: opened(room, made),
+        };
+        self.note_need(room, course, &running.table, made);
+        let arrival = match answer_of(made) {
+            Some(answer) => {
+                if !running.go_on(room, course.tree, made, &step.text, answer) {
+                    self.is_over = true;
+                }
+                if made.call == Call::Fork {
+                    self.fork(room, course, running, &step, answer);
+                }
+                Arrival::Success
+            }
+            None => Arrival::Failure,
+        };
+        running.state = self.arrive(room, course, running, &step, arrival);
+    }
+
+    /// Goes on by an entry of a process. Whether the process ends is told.
+    fn take(
+        &mut self,
+        room: &mut Room,
+        course: &Course<'_>,
+        running: &mut Running,
+        at: usize,
+        entry: &Entry,
+    ) -> bool {
+        match &entry.event {
+            Event::Omitted(_) => false,
+            Event::Ended => {
+                self.automaton.end(running.state);
+                true
+            }
+            Event::Called(made) => {
+                for _ in 0..course.messages_of(at) {
+                    self.step(room, course, running, made, at, entry.span.first);
+                }
+                false
+            }
+        }
+    }
+
+    /// Runs a process through its calls.
+    fn run_one(&mut self, room: &mut Room, course: &Course<'_>, mut running: Running) {
+        for (at, entry) in course.entries.iter().enumerate() {
+            if entry.process == running.process
+                && self.take(room, course, &mut running, at, entry)
+            {
+                break;
+            }
+        }
+    }
+
+    /// Runs a process that begins with this table, and those that it makes, through their calls.
+    pub(crate) fn run(&mut self, room: &mut Room, course: &Course<'_>, process: u32, table: Table) {
+        let mut running = Running {
+            process,
+            table,
+            in_mode: false,
+            state: 0,
+        };
+        running.state = self.next(room, course, &running, b"start", Arrival::Success);
+        self.run_one(room, course, running);
+        for _ in 0..course.entries.len() {
+            let Some(forked) = self.forked.pop() else {
+                break;
+            };
+            self.run_one(room, course, forked);
+        }
+    }
+}
