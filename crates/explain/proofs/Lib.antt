@@ -1,3 +1,4 @@
 pub mod Refused
 pub mod Tellings
 pub mod BeyondRows
+mod UnneededRows

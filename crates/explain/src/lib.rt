@@ -21,6 +21,7 @@ pub mod sentences;
 mod starting;
 pub mod task_faults;
 pub mod topics;
+pub mod unneeded;
 pub mod warning;
 
 pub use beyond::{held_in_mode, rights_beyond, unlisted_rights};

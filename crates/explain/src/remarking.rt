@@ -4,11 +4,13 @@ use crate::beyond::{beyond_at_all, points_beyond};
 use crate::observations::{Observation, add_points};
 use crate::scenes::Scene;
 use crate::topics::Topic;
+use crate::unneeded::unneeded;
+use certificate::Cert;
 use remarks::{Remark, Remarked, TaskRemark, bounds_on, remarks_on, remarks_on_task};
-use rights::Rights;
 use rights::limits::MAX_DESCRIPTORS;
+use rights::{Op, Rights};
 use std::alloc::{AllocError, Global};
-use task::NamedProgram;
+use task::{Grant, NamedProgram};
 use texts::{Page, say};
 
 /// What a remark is about.
@@ -185,7 +187,6 @@ fn topic_of_task_remark(remark: TaskRemark<'_>) -> Topic {
     match remark {
         TaskRemark::Alone { .. } => Topic::LoneEnd,
         TaskRemark::Boundless { .. } => Topic::WholeTree,
-        TaskRemark::Unused { .. } => Topic::OperationUnused,
     }
 }
 
@@ -199,11 +200,50 @@ fn add_task_text(page: &mut Page, remark: TaskRemark<'_>) {
         TaskRemark::Boundless { grant } => {
             say!(page; "the grant ", grant.name.as_bytes(), " holds the whole tree")
         }
-        TaskRemark::Unused { grant, operation } => {
-            say!(page; "the grant ", grant.name.as_bytes(), " lists ", operation);
-            say!(page; ", which no call does there in the mode")
+    }
+}
+
+/// Whether some untrusted program may hold what lies in a grant.
+fn has_ceiling(cert: &Cert, grant: &Grant) -> bool {
+    for authority in cert.authorities() {
+        for ceiling in authority.ceilings() {
+            if ceiling.grant().as_bytes() == grant.name.as_bytes() {
+                return true;
+            }
         }
     }
+    false
+}
+
+/// That a grant lists an operation that nothing needs.
+fn told_unneeded(alloc: Global, scene: &Scene<'_>, grant: &Grant, operation: Op) -> Observation {
+    let mut words = Page::new(alloc);
+    say!(&mut words; "the grant ", grant.name.as_bytes(), " lists ", operation);
+    say!(&mut words; ", which no call does there in the mode");
+    if has_ceiling(scene.cert, grant) {
+        say!(&mut words; ", and for which no ceiling has a right");
+    }
+    Observation {
+        topic: Topic::OperationUnused,
+        words,
+        points: Vec::new(alloc),
+        joint: "",
+        more: Page::new(alloc),
+    }
+}
+
+/// Adds which operations grants list that nothing needs.
+fn add_unneeded(
+    alloc: Global,
+    list: &mut Vec<Observation>,
+    scene: &Scene<'_>,
+) -> Result<(), AllocError> {
+    for grant in scene.task.grants() {
+        for operation in &unneeded(alloc, scene.task, scene.cert, grant)? {
+            list.push(told_unneeded(alloc, scene, grant, *operation))?;
+        }
+    }
+    Ok(())
 }
 
 /// The remarks on a task as a whole: with the bounds of the certificate, if there is one.
@@ -213,7 +253,7 @@ pub fn task_remarks(
     has_cert: bool,
 ) -> Result<Vec<Observation>, AllocError> {
     let mut list = Vec::new(alloc);
-    for remark in remarks_on_task(alloc, scene.task, scene.cert, has_cert)? {
+    for remark in remarks_on_task(alloc, scene.task)? {
         let mut words = Page::new(alloc);
         add_task_text(&mut words, remark);
         list.push(Observation {
@@ -223,6 +263,9 @@ pub fn task_remarks(
             joint: "",
             more: Page::new(alloc),
         })?;
+    }
+    if has_cert {
+        add_unneeded(alloc, &mut list, scene)?;
     }
     Ok(list)
 }

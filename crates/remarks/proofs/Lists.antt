@@ -25,3 +25,8 @@ pub one_more : {X Y : Type 0} (h : X → Y) (f : ℕ → Y) (before after : List
 one_more h f before after x n grown so_far next =
     ap (map h) grown ∙ map-append h before (x ∷ []) ∙ ap (λ ys. ys ++ h x ∷ []) so_far ∙ ap (λ y. map f (range_with_len 0 n) ++ y ∷ []) next
     ∙ sym (map-range_with_len_more f 0 n n (omega arith))
+
+pub one_flag_more : {X : Type 0} (f : ℕ → X) (before after : List X) (x : X) (n : ℕ) → after ≡ before ++ x ∷ []
+    → before ≡ map f (range_with_len 0 n) → x ≡ f n → after ≡ map f (range_with_len 0 (n + 1))
+one_flag_more f before after x n grown so_far next =
+    grown ∙ ap (λ ys. ys ++ x ∷ []) so_far ∙ ap (λ y. map f (range_with_len 0 n) ++ y ∷ []) next ∙ sym (map-range_with_len_more f 0 n n (omega arith))

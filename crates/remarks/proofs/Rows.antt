@@ -1,6 +1,6 @@
 -- Rows of from where points come, of what is remarked and of what is warned, each with one of which it doesn't hold.
 use Rattle.std.proofs.Common.{◌≡◌, ℕ, true, false, List, [], ◌∷◌, refl}
-use Rattle.std.specs.Prelude.{codes, Option, Some}
+use Rattle.std.specs.Prelude.{codes, Option, Some, None}
 use Rattle.rights.specs.Classes.{Initial}
 use Rattle.rights.specs.Operations.{Operation, Look, Read as Read_bytes}
 use Rattle.rights.specs.Sets.{all_commands, all_rights, read_right}
@@ -8,6 +8,7 @@ use Rattle.rights.specs.Values.{CommandSet, RightSet}
 use Rattle.file_tree.specs.Nodes.{Kind, Node, File, Dir, Link}
 use Rattle.certificate.specs.Bounds.{Bound, ModeBound, Off, On, Either, Held, Target, In_grant, Any_node, Socket, Slot, Open, Closed}
 use Rattle.instruction_set.specs.Programs.{Instruction, Jmp, Jeq, Halt, Invoke, Cap_enter, Read, Close, Number}
+use Rattle.remarks.specs.Marked.{skipping_marked, unsettled_marked}
 use Rattle.remarks.specs.Remarks.{doubled, idle, skipping, strays, unsettled}
 use Rattle.remarks.specs.TaskRemarks.{lone_sides}
 use Rattle.remarks.specs.Warnings.{calls_ahead, goes_on_closing, has_more, leads_out, starts_listable, takes_directory_at}
@@ -63,6 +64,32 @@ is_skipped = refl
 
 all_enter : unsettled may_skip (bound Off file Closed ∷ bound Off file Closed ∷ bound On file Closed ∷ bound On file Closed ∷ []) ≡ []
 all_enter = refl
+
+-- The same of a marked program, whose bounds are outside the mode alone: point 2 has one, since a choice skips the entering.
+abbrev outside : Option Bound
+outside = bound Off file Closed
+
+is_unsettled_marked : unsettled_marked may_skip (outside ∷ outside ∷ outside ∷ outside ∷ []) ≡ 2 ∷ []
+unfolding within_steps
+is_unsettled_marked = refl
+
+is_skipped_marked : skipping_marked may_skip (outside ∷ outside ∷ outside ∷ outside ∷ []) ≡ 0 ∷ []
+unfolding within_steps
+is_skipped_marked = refl
+
+-- Where all enter, no point behind has a bound; and one that only ends doesn't count.
+all_enter_marked : unsettled_marked (Invoke Cap_enter 1 ∷ Invoke (Read (Number 0)) 2 ∷ Halt ∷ []) (outside ∷ None ∷ None ∷ []) ≡ []
+unfolding within_steps
+all_enter_marked = refl
+
+ends_marked : unsettled_marked (Jeq 0 7 3 ∷ Invoke Cap_enter 3 ∷ Invoke (Read (Number 0)) 3 ∷ Halt ∷ []) (outside ∷ outside ∷ None ∷ outside ∷ []) ≡ []
+unfolding within_steps
+ends_marked = refl
+
+-- A way that doesn't come back to where others are in the mode skips nothing.
+parts_marked : unsettled_marked (Jeq 0 7 3 ∷ Invoke Cap_enter 2 ∷ Halt ∷ Invoke (Read (Number 0)) 4 ∷ Halt ∷ []) (outside ∷ outside ∷ None ∷ outside ∷ outside ∷ []) ≡ []
+unfolding within_steps
+parts_marked = refl
 
 -- The mode is entered with both numbers, and the first alone is read from there on.
 abbrev enter_then_read : List Instruction

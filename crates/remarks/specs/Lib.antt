@@ -4,3 +4,4 @@ pub mod RemarkViews
 pub mod TaskRemarks
 pub mod Warnings
 pub mod Uses
+pub mod Marked

@@ -8,11 +8,11 @@ use Rattle.rights.specs.Operations.{Operation, Look}
 use Rattle.rights.specs.Sets.{is_within, lookup_right}
 use Rattle.rights.specs.Sides.{other_side}
 use Rattle.rights.specs.Values.{Name, PairNumber, SideNumber}
-use Rattle.certificate.specs.Bounds.{Authority, Bound, Ceiling, Certificate, Target, In_grant, Any_node, Socket, Unknown, bound_at}
+use Rattle.certificate.specs.Bounds.{Bound, Certificate, Target, In_grant, Any_node, Socket, Unknown, bound_at}
 use Rattle.instruction_set.specs.Programs.{Instruction, Invoke}
 use Rattle.rules.specs.Slots.{may_be_on}
 use Rattle.rules.specs.Uses.{Use, uses}
-use Rattle.task.specs.Plans.{FirstDescriptor, FirstObject, On_end, On_node, NamedProgram, Plan, Start}
+use Rattle.task.specs.Plans.{FirstDescriptor, FirstObject, On_end, On_node, NamedProgram, Start}
 use Rattle.remarks.specs.Remarks.{holds_there}
 use Rattle.remarks.specs.Ways.{points}
 
@@ -55,11 +55,3 @@ call_does grant operation _ _ = false
 abbrev pub program_does : Certificate → Name → Operation → NamedProgram → Bool
 program_does c grant operation p =
     list_any (λ point. holds_there (call_does grant operation (bound_at c p.name point)) (slice_get p.code point)) (points p.code)
-
-abbrev pub has_ceiling : Name → Authority → Bool
-has_ceiling grant a = list_any (λ (c : Ceiling). bytes_eq c.grant grant) a.ceilings
-
--- no call does it, and no untrusted program may
-abbrev pub is_unused : Plan → Certificate → Name → Operation → Bool
-is_unused plan c grant operation =
-    not (list_any (program_does c grant operation) plan.programs) && not (list_any (has_ceiling grant) c.authorities)

@@ -5,6 +5,7 @@
 mod bounded;
 pub mod directories;
 mod looks;
+mod marked;
 pub mod policies;
 pub mod reaching;
 pub mod remarks;
@@ -12,7 +13,7 @@ pub mod warnings;
 mod ways;
 
 pub use directories::directories_at_start;
-pub use policies::{TaskRemark, remarks_on_task};
+pub use policies::{TaskRemark, any_program_does, remarks_on_task};
 pub use reaching::{Uses, uses_of};
 pub use remarks::{Remark, Remarked, bounds_on, remarks_on};
 pub use warnings::{

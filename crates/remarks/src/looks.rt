@@ -85,7 +85,7 @@ fn beneath(call: &Syscall) -> Looks<'_>
 }
 
 /// Whether a process may be outside the mode.
-fn may_be_off(mode: ModeBound) -> bool
+pub(crate) fn may_be_off(mode: ModeBound) -> bool
     ensures { result ≡ may_be_off (mode_of mode) }
 {
     match mode {

@@ -1,23 +1,21 @@
 //! Remarks on a task's first processes and its policy, as values.
 
-ghost use Rattle.std.specs.Prelude.{◌≡◌, ◌&&◌, IfOk, filter, length, map, not, option_map};
+ghost use Rattle.std.specs.Prelude.{◌≡◌, ◌&&◌, IfOk, length, map, not, option_map};
 ghost use Rattle.std.specs.List.{list_any, slice_get};
 ghost use Rattle.certificate.specs.Bounds.{bound_at};
 ghost use Rattle.remarks.specs.Remarks.{holds_there};
-ghost use Rattle.std.specs.Str.{bytes_eq};
-ghost use Rattle.certificate.specs.Views.{authorities_of, authority_of, bound_of, ceiling_of, target_of};
+ghost use Rattle.certificate.specs.Views.{bound_of, target_of};
 ghost use Rattle.instruction_set.specs.Views.{instruction_of};
-ghost use Rattle.remarks.specs.TaskRemarks.{lone_sides, call_does, has_ceiling, is_alone, is_side, is_unused, may_be_in, program_does, starts_with, use_does};
+ghost use Rattle.remarks.specs.TaskRemarks.{lone_sides, call_does, is_alone, is_side, may_be_in, program_does, starts_with, use_does};
 ghost use Rattle.rights.specs.OperationLists.{lists, same_operation};
 ghost use Rattle.rights.specs.Operations.{Look};
 ghost use Rattle.rights.specs.Sets.{is_within, lookup_right};
 ghost use Rattle.rights.specs.Views.{operation_of, side_seen};
-ghost use Rattle.task.specs.Views.{first_descriptor_of, first_object_of, grant_of, program_of, programs_of, start_of, starts_of};
-ghost use Rattle.texts.specs.Views.{name_of};
+ghost use Rattle.task.specs.Views.{first_descriptor_of, first_object_of, program_of, programs_of, start_of, starts_of};
 ghost use Rattle.transfer.specs.Views.{operation_list};
 
 use crate::ways::count;
-use certificate::{Authority, Bound, Ceiling, Cert, Held, Target};
+use certificate::{Bound, Cert, Held, Target};
 use instruction_set::Instruction;
 use rights::limits::MAX_PAIRS;
 use rights::{Op, Rights, Side};
@@ -32,8 +30,6 @@ pub enum TaskRemark<'a> {
     Alone { pair: u8, side: Side },
     /// A grant holds everything.
     Boundless { grant: &'a Grant },
-    /// A grant lists an operation that nothing does there in the mode.
-    Unused { grant: &'a Grant, operation: Op },
 }
 
 /// Whether a first descriptor is of a side of a pair.
@@ -172,20 +168,8 @@ fn program_does(cert: &Cert, grant: &[u8], operation: Op, named: &NamedProgram) 
     (0..count(named.program.code())).any(|point| does_at(cert, grant, operation, named, point))
 }
 
-/// Whether one of some ceilings is on a grant.
-fn has_ceiling_among(grant: &[u8], ceilings: &[Ceiling]) -> bool
-    ensures { result ≡ list_any (λ c. bytes_eq c.grant grant.now) (map ceiling_of ceilings.now) }
-{
-    match ceilings {
-        [] => false,
-        [first, rest @ ..] => {
-            first.grant().as_bytes() == grant || has_ceiling_among(grant, rest)
-        }
-    }
-}
-
-/// Whether some program does an operation in a grant.
-fn any_program_does(cert: &Cert, grant: &[u8], operation: Op, programs: &[NamedProgram]) -> bool
+/// Whether some call of these programs may do an operation in a grant in the mode, by the bounds of a certificate in which all are written.
+pub fn any_program_does(cert: &Cert, grant: &[u8], operation: Op, programs: &[NamedProgram]) -> bool
     ensures { result ≡ list_any (program_does cert.now grant.now (operation_of operation)) (programs_of programs.now) }
 {
     match programs {
@@ -195,44 +179,6 @@ fn any_program_does(cert: &Cert, grant: &[u8], operation: Op, programs: &[NamedP
                 || any_program_does(cert, grant, operation, rest)
         }
     }
-}
-
-/// Whether some untrusted program may hold what lies in a grant.
-fn any_has_ceiling(grant: &[u8], authorities: &[Authority]) -> bool
-    ensures { result ≡ list_any (has_ceiling grant.now) (authorities_of authorities.now) }
-{
-    match authorities {
-        [] => false,
-        [first, rest @ ..] => has_ceiling(grant, first) || any_has_ceiling(grant, rest),
-    }
-}
-
-/// Whether an untrusted program may hold what lies in a grant.
-fn has_ceiling(grant: &[u8], authority: &Authority) -> bool
-    ensures { result ≡ has_ceiling grant.now (authority_of authority.now) }
-{
-    has_ceiling_among(grant, authority.ceilings())
-}
-
-/// Whether nothing does an operation in a grant.
-fn is_unused(task: &Task, cert: &Cert, grant: &[u8], operation: Op) -> bool
-    ensures { result ≡ is_unused task.now cert.now grant.now (operation_of operation) }
-{
-    !any_program_does(cert, grant, operation, task.programs())
-        && !any_has_ceiling(grant, cert.authorities())
-}
-
-/// The operations that a grant lists and that nothing does there in the mode.
-fn unused(alloc: Global, task: &Task, cert: &Cert, grant: &Grant) -> Result<Vec<Op>, AllocError>
-    ensures { IfOk result (λ found. found.items
-        ≡ filter (λ operation. is_unused task.now cert.now (grant_of grant.now).name (operation_of operation)) grant.now.operations.items) }
-{
-    grant
-        .operations
-        .iter()
-        .copied()
-        .filter(|operation| is_unused(task, cert, grant.name.as_bytes(), *operation))
-        .collect(alloc)
 }
 
 /// Adds the initial pairs of which processes have this side alone.
@@ -248,12 +194,10 @@ fn add_alone(
     Ok(())
 }
 
-/// The remarks on a task: with the bounds of a certificate in which all are written, if there is one.
+/// The remarks on a task.
 pub fn remarks_on_task<'a>(
     alloc: Global,
     task: &'a Task,
-    cert: &Cert,
-    has_cert: bool,
 ) -> Result<Vec<TaskRemark<'a>>, AllocError> {
     let mut list = Vec::new(alloc);
     add_alone(alloc, &mut list, task, Side::A)?;
@@ -261,12 +205,6 @@ pub fn remarks_on_task<'a>(
     for grant in task.grants() {
         if grant.path.is_root() {
             list.push(TaskRemark::Boundless { grant })?;
-        }
-        if has_cert {
-            for operation in &unused(alloc, task, cert, grant)? {
-                let operation = *operation;
-                list.push(TaskRemark::Unused { grant, operation })?;
-            }
         }
     }
     Ok(list)

@@ -172,6 +172,13 @@ impl<'a> Remarks<'a> {
         self.add(Remark::Unsettled { from }, points)
     }
 
+    /// Remarks the same of a marked program, which is bounded outside the mode alone.
+    fn add_unsettled_marked(&mut self) -> Result<(), AllocError> {
+        let from = self.bounded.skipping_marked(self.alloc)?;
+        let points = self.bounded.unsettled_marked(self.alloc)?;
+        self.add(Remark::Unsettled { from }, points)
+    }
+
     /// Remarks to what a number could be limited at the points in the mode that have it newly, if that is less than it has. Nothing is
     /// told where no call needs anything of it any more, or none names it.
     fn add_limits(&mut self, number: u32, idle: &[usize]) -> Result<(), AllocError> {
@@ -247,7 +254,11 @@ impl<'a> Remarks<'a> {
 
     /// The remarks that the bounds give.
     fn add_bounded(&mut self) -> Result<(), AllocError> {
-        self.add_unsettled()?;
+        if self.bounded.untrusted {
+            self.add_unsettled_marked()?;
+        } else {
+            self.add_unsettled()?;
+        }
         for number in 0..MAX_DESCRIPTORS as u32 {
             self.add_of_number(number)?;
         }

@@ -20,7 +20,7 @@ pub(crate) fn is_flagged(flags: &[bool], point: usize) -> bool
 }
 
 /// Whether one of the points that a point leads to is flagged.
-fn leads_to_flagged(code: &[Instruction], flags: &[bool], point: usize) -> bool
+pub(crate) fn leads_to_flagged(code: &[Instruction], flags: &[bool], point: usize) -> bool
     ensures { result ≡ list_any (is_flagged flags.now) (successors_at (code_of code.now) point) }
 {
     let successors = successors_at(code, point);
