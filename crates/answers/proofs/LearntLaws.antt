@@ -50,7 +50,7 @@ not_learnt files calls calls_text recorded (own ∷ rest) before after is_file a
     not_followed writes.plan own recorded rest same none writes.says
 not_learnt files calls calls_text recorded (own ∷ rest) before after is_file are none heard (inr says) = let clash = says.0 in cc
 
-not_there : (files : List ℕ → Option (List ℕ)) (calls : List ℕ) (records : List RecordedCalls) → files calls ≡ None → AreCalls (Some files) (calls ∷ []) records → ⊥
+pub not_there : (files : List ℕ → Option (List ℕ)) (calls : List ℕ) (records : List RecordedCalls) → files calls ≡ None → AreCalls (Some files) (calls ∷ []) records → ⊥
 not_there files calls [] missing heard = absurd heard
 not_there files calls (own ∷ rest) missing heard = let clash = sym missing ∙ heard.0.file in cc
 

@@ -1,5 +1,6 @@
 pub mod Refused
 pub mod NoAnswerLaws
 pub mod LearntLaws
+pub mod PlannedLaws
 pub mod PlacingLaws
 pub mod Writes

@@ -25,7 +25,8 @@ use Rattle.explore.specs.Broken.{Breaks, IsRefuted, Move, own_moves}
 use Rattle.explore.specs.Texts.{WritesRun, schedule_text}
 use Rattle.answers.specs.Learnt.{SaysLearnt}
 use Rattle.answers.specs.PlacingWords.{placings_in}
-use Rattle.answers.specs.Questions.{Question, Usage, Listing, Broken, Unfound, Breach, Proposed, Page, Log, Faulty, Calls, Followed, Learnt, question_in}
+use Rattle.answers.specs.Planned.{HearsCalls, SaysPlanned}
+use Rattle.answers.specs.Questions.{Question, Usage, Listing, Broken, Unfound, Breach, Proposed, Page, Log, Faulty, Calls, Followed, Learnt, Planned, NamesLeft, question_in}
 use Rattle.explain.specs.TaskTexts.{IsTaskText}
 use Rattle.explain.specs.Telling.{Tells}
 
@@ -182,7 +183,7 @@ pub record SaysOfFollowing (files : Files) (task calls : List ℕ) (places : Lis
   pub is_calls_file : IsFile files calls calls_text
   pub says : SaysWhetherFollowed text calls_text places status before after
 
--- what is taken of the output before and after is told of broken rules, of proposals, of runs, of calls and of what is learnt
+-- what is taken of the output before and after is told of broken rules, of proposals, of runs, of calls, of what is learnt and of plans
 abbrev pub Answers : Files → Question → ℕ → Option (List ℕ) → Option (List ℕ) → Type 0
 Answers files Usage status before after = status ≡ 0
 Answers files (Listing task certificate) status before after = status ≡ 0
@@ -198,6 +199,8 @@ Answers files (Faulty task) status before after = SaysOfFile files task status
 Answers files (Calls file) status before after = SaysOfRecord files file status before after
 Answers files (Followed task calls places) status before after = SaysOfFollowing files task calls places status before after
 Answers files (Learnt calls) status before after = SaysLearnt files calls status before after
+Answers files (Planned line calls) status before after = SaysPlanned files calls status before after
+Answers files (NamesLeft calls) status before after = HearsCalls files calls status
 
 -- The words ask something, and it is answered.
 pub record AnswersWords (files : Files) (words : List (List ℕ)) (status : ℕ) (before after : Option (List ℕ)) : Type 0 where

@@ -1,5 +1,5 @@
 -- What is no answer. (own)
-use Rattle.std.specs.Prelude.{◌≡◌, ℕ, false, List, [], ◌∷◌, Option, Some, None, Ok}
+use Rattle.std.specs.Prelude.{◌≡◌, ℕ, Bool, false, true, List, [], ◌∷◌, ◌++◌, Option, Some, None, Ok}
 use Rattle.certificate.specs.Bounds.{Certificate}
 use Rattle.certificate_text.specs.Readings.{certificate_of_text}
 use Rattle.checker.specs.Findings.{BrokenRule}
@@ -12,7 +12,8 @@ use Rattle.task.specs.Plans.{Plan}
 use Rattle.task_reader.specs.Reading.{task_of}
 use Rattle.answers.specs.Answered.{Answers}
 use Rattle.answers.specs.PlacingWords.{placings_in}
-use Rattle.answers.specs.Questions.{Broken, Calls, Followed, Learnt, Log, Unfound}
+use Rattle.answers.specs.Planned.{IsHonest, marked_text}
+use Rattle.answers.specs.Questions.{Broken, Calls, Followed, Learnt, Log, Planned, Unfound}
 use Rattle.explain.specs.TaskTexts.{IsTaskText}
 use Rattle.explain.specs.Telling.{HasHead}
 
@@ -58,3 +59,14 @@ pub record LearntIsFollowed : Type 0 where
       → Answers (Some files) (Learnt (calls ∷ [])) 0 before after → ⊥
   pub missing : (files : List ℕ → Option (List ℕ)) (calls : List ℕ) (status : ℕ) (before after : Option (List ℕ)) → files calls ≡ None
       → Answers (Some files) (Learnt (calls ∷ [])) status before after → ⊥
+
+-- status 0 to `plan` where what is written is the text of a task that no certificate fits, or nothing; the word that a certificate of the marked task is accepted, where
+-- none is; and any status, where there is no such file
+pub record PlannedIsAccepted : Type 0 where
+  pub unfit : (files : List ℕ → Option (List ℕ)) (line : ℕ) (calls before text : List ℕ) (plan : Plan) → task_of text ≡ Ok plan
+      → ((bounds : Certificate) → IsAccepted plan bounds → ⊥) → Answers (Some files) (Planned line (calls ∷ [])) 0 (Some before) (Some (before ++ text)) → ⊥
+  pub silent : (files : List ℕ → Option (List ℕ)) (line : ℕ) (calls before : List ℕ) → Answers (Some files) (Planned line (calls ∷ [])) 0 (Some before) (Some before) → ⊥
+  pub unmarked : (front name back : List ℕ) (trusted : Bool) → ((plan : Plan) (bounds : Certificate) → task_of (marked_text front name back trusted true) ≡ Ok plan
+      → IsAccepted plan bounds → ⊥) → IsHonest front name back trusted true → ⊥
+  pub missing : (files : List ℕ → Option (List ℕ)) (line : ℕ) (calls : List ℕ) (status : ℕ) (before after : Option (List ℕ)) → files calls ≡ None
+      → Answers (Some files) (Planned line (calls ∷ [])) status before after → ⊥

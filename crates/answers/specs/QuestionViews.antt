@@ -1,6 +1,6 @@
 -- What a question of the code stands for.
 use Rattle.std.specs.Prelude.{map, option_map, string_bytes}
-use Rattle.answers.specs.Questions.{Question, Usage, Listing, Broken, Unfound, Breach, Proposed, Page, Log, Faulty, Calls, Followed, Learnt}
+use Rattle.answers.specs.Questions.{Question, Usage, Listing, Broken, Unfound, Breach, Proposed, Page, Log, Faulty, Calls, Followed, Learnt, Planned, NamesLeft}
 use Rattle.answers.specs.declared.questions.Question.{Question as QuestionCode}
 use Rattle.answers.specs.declared.questions.Question.TheVariants as question
 
@@ -17,3 +17,5 @@ question_of (question.Faulty task) = Faulty task.now
 question_of (question.Calls file) = Calls file.now
 question_of (question.Followed task calls places) = Followed task.now calls.now (map string_bytes places.now)
 question_of (question.Learnt calls) = Learnt (map string_bytes calls.now)
+question_of (question.Planned line calls) = Planned line (map string_bytes calls.now)
+question_of (question.NamesLeft calls) = NamesLeft (map string_bytes calls.now)

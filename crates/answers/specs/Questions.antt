@@ -10,7 +10,8 @@ use Rattle.answers.specs.PlacingWords.{placing_in}
 -- what there is to ask; for a listing of a task, with the bounds of a certificate or without; for all rules that a certificate breaks; for what the search comes to; for
 -- a run that breaks the sandbox, among so many states at most; for a certificate, of untrusted programs too, or for one of an older text carried over; for a page to
 -- look at, or a log for code scanning, of a task alone or with a certificate; for the faults of a task's text; for the calls of a record of strace; for whether
--- recorded calls follow a task, whose places lie where words say; for a task, of files of recorded calls
+-- recorded calls follow a task, whose places lie where words say; for a task, of files of recorded calls; for that with the mode behind a line of the first one,
+-- or for the lines behind which it could be
 pub data Question : Type 0 where
   Usage : Question
   Listing : (task : List ℕ) (certificate : Option (List ℕ)) → Question
@@ -24,6 +25,8 @@ pub data Question : Type 0 where
   Calls : (file : List ℕ) → Question
   Followed : (task calls : List ℕ) (places : List (List ℕ)) → Question
   Learnt : (calls : List (List ℕ)) → Question
+  Planned : (line : ℕ) (calls : List (List ℕ)) → Question
+  NamesLeft : (calls : List (List ℕ)) → Question
 
 abbrev pub if_so : Bool → Question → Option Question
 if_so asked question = if asked then Some question else None
@@ -68,6 +71,13 @@ are_files names = list_all (λ name. not (is_dashed name)) names
 abbrev pub learnt : List (List ℕ) → Option Question
 learnt calls = if_so (are_files calls) (Learnt calls)
 
+-- The first word may be the number of a line.
+abbrev pub planned : Option ℕ → List (List ℕ) → Option Question
+planned (Some line) [] = None
+planned (Some line) (word ∷ []) = None
+planned (Some line) (word ∷ calls ∷ more) = if_so (are_files (calls ∷ more)) (Planned line (calls ∷ more))
+planned None calls = if_so (are_files calls) (NamesLeft calls)
+
 abbrev pub of_more : List (List ℕ) → Option Question → Option Question
 of_more [] question = question
 of_more (word ∷ words) question = None
@@ -81,11 +91,13 @@ of_files command task (other ∷ words) =
 abbrev pub of_command : List ℕ → List (List ℕ) → Option Question
 of_command command [] = if_so (bytes_eq command (codes "--help")) Usage
 of_command command (task ∷ words) =
-    if bytes_eq command (codes "learn") then learnt (task ∷ words) else of_files command task words
+    if bytes_eq command (codes "learn") then learnt (task ∷ words)
+    else if bytes_eq command (codes "plan") then planned (at_most most_states (number_of task)) (task ∷ words)
+    else of_files command task words
 
 -- No words, or `--help`; `list TASK`, `none TASK`, `breach TASK`, `propose TASK`, `page TASK`, `sarif TASK`, `text TASK`, `calls RECORD`; `list TASK CERT`,
 -- `breach TASK STATES`, `propose TASK CERT`, `page TASK CERT`, `sarif TASK CERT`, `no TASK CERT`; `follow TASK CALLS` and words REAL=MODEL; `learn` and
--- files of calls. No name begins with `-`, and a number of states fits 32 bits.
+-- files of calls; `plan LINE` and files of calls, or `plan` and files of calls. No name begins with `-`, and numbers fit 32 bits.
 abbrev pub question_in : List (List ℕ) → Option Question
 question_in [] = Some Usage
 question_in (command ∷ words) = of_command command words

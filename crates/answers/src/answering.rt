@@ -16,6 +16,7 @@ use crate::breaching::answer_breach;
 use crate::following::answer_follow;
 use crate::learning::answer_learn;
 use crate::paging::{answer_checked_page, answer_page};
+use crate::planning::{answer_names_left, answer_plan};
 use crate::questions::{Question, read_question};
 use crate::recording::answer_calls;
 use crate::refusals::{Refusal, tell_refusal};
@@ -422,6 +423,8 @@ fn reply<'a, S: Source, W: Out, V: Out, P: Watcher>(
             places,
         } => answer_held(alloc, files, task, calls, places, out),
         Question::Learnt { calls } => answer_learn(alloc, files, calls, out, err),
+        Question::Planned { line, calls } => answer_plan(alloc, files, line, calls, out, err),
+        Question::NamesLeft { calls } => answer_names_left(alloc, files, calls, out),
     }
 }
 

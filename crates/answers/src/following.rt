@@ -21,8 +21,18 @@ use task_reader::read_task;
 use task_text::texts_of_file;
 use texts::{Page, Say, parts_of, say};
 
-/// How many states are met at most.
-const MOST_STATES: usize = 200_000;
+/// How many states are met at most, for each call and beside.
+const STATES_A_CALL: usize = 10;
+
+const MORE_STATES: usize = 6_000;
+
+/// How many states are met at most for recorded calls: a run that shows them takes some two for each.
+pub(crate) fn most_states(entries: &[Entry]) -> usize {
+    entries
+        .len()
+        .saturating_mul(STATES_A_CALL)
+        .saturating_add(MORE_STATES)
+}
 
 /// Calls that are skipped and that are told as one: what they are of, how many they are, and the line of the first.
 #[derive(Drop)]
@@ -207,7 +217,13 @@ fn write_held<'a, W: Out>(alloc: Global, held: &Held<'_>, out: &mut W) -> Result
         (W.taken out.old) (W.taken out.new)) }
     ensures done { IfOk result (λ status. is_done_status status ≡ true) }
 {
-    match follow(alloc, held.task, held.placings, held.entries, MOST_STATES)? {
+    match follow(
+        alloc,
+        held.task,
+        held.placings,
+        held.entries,
+        most_states(held.entries),
+    )? {
         Followed::Follows(witness) => write_followed(alloc, held.entries, &witness.moves, out),
         Followed::Parts(parted) => write_parted(alloc, held, &parted, out),
     }

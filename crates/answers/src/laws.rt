@@ -1,6 +1,6 @@
 //! What is no answer. Each law is the contract of a function that does nothing.
 
-ghost use Rattle.answers.specs.NoAnswers.{LearntIsFollowed, LogSaysWhether, NoSaysWhether, NoneSaysWhether, RecordsAreHeard};
+ghost use Rattle.answers.specs.NoAnswers.{LearntIsFollowed, LogSaysWhether, NoSaysWhether, NoneSaysWhether, PlannedIsAccepted, RecordsAreHeard};
 
 /// The status of `no` says whether the certificate is accepted: 0 isn't the answer to one that is refused, nor 1 to one that is
 /// accepted; and nothing written is an answer to neither. (own)
@@ -28,4 +28,10 @@ pub fn records_are_heard()
 /// 0 is no answer to `learn` of calls that no run of any task shows, and nothing is one of a file that isn't there. (own)
 pub fn what_is_learnt_is_followed()
     ensures { LearntIsFollowed }
+{}
+
+/// 0 is no answer to `plan` where the text of a task that no certificate fits is written, or nothing; no plan says that a certificate of the marked
+/// task is accepted where none is; and nothing is an answer of a file that isn't there. (own)
+pub fn what_is_planned_is_accepted()
+    ensures { PlannedIsAccepted }
 {}

@@ -6,6 +6,7 @@ ghost use Rattle.console.specs.Statuses.{is_done_status};
 ghost use Rattle.records.specs.EntryViews.{calls_seen};
 ghost use Rattle.task_reader.specs.Reading.{task_of};
 
+use crate::following::most_states;
 use crate::refusals::Refusal;
 use crate::usage::NAME;
 use console::Source;
@@ -19,9 +20,6 @@ use task::Task;
 use task_reader::{TaskFault, read_task};
 use texts::{Page, Say, parts_of, say};
 
-/// How many states are met at most for each record.
-const MOST_STATES: usize = 200_000;
-
 /// Adds the calls of a file.
 fn add_record(records: &mut Vec<Vec<Entry>>, entries: Vec<Entry>) -> Result<(), Memory>
     ensures { IfOk result (λ _. records.new.items ≡ records.old.items ++ entries ∷ []) }
@@ -31,7 +29,7 @@ fn add_record(records: &mut Vec<Vec<Entry>>, entries: Vec<Entry>) -> Result<(), 
 }
 
 /// The calls of files.
-fn calls_of_files<'a, S: Source>(
+pub(crate) fn calls_of_files<'a, S: Source>(
     alloc: Global,
     files: &mut S,
     names: &'a [String],
@@ -50,7 +48,7 @@ fn calls_of_files<'a, S: Source>(
 fn is_followed(alloc: Global, task: &Task, entries: &[Entry]) -> Result<bool, Memory>
     ensures { IfOk result (λ is. is ≡ true → IsFollowed task.now (calls_seen entries.now)) }
 {
-    match follow(alloc, task, &[], entries, MOST_STATES)? {
+    match follow(alloc, task, &[], entries, most_states(entries))? {
         Followed::Follows(_) => Ok(true),
         Followed::Parts(_) => Ok(false),
     }
@@ -76,12 +74,13 @@ fn told_of(alloc: Global, at: usize) -> Result<Vec<u8>, Memory> {
 }
 
 /// Why nothing is learnt.
-fn why_nothing(fault: LearnFault) -> &'static str {
+pub(crate) fn why_nothing(fault: LearnFault) -> &'static str {
     match fault {
         LearnFault::Memory => "there is no memory",
         LearnFault::Points => "a program would have more than 256 instructions",
         LearnFault::Descriptors => "a process holds more than 16 descriptors",
         LearnFault::Nothing => "there is no call",
+        LearnFault::Line => "the first file has no call in that line",
     }
 }
 
@@ -94,7 +93,11 @@ fn why_refused(fault: &TaskFault) -> &'static str {
 }
 
 /// Tells on the error stream why nothing is learnt, and gives the status.
-fn tell_nothing<'a, V: Out>(alloc: Global, why: &str, err: &mut V) -> Result<u8, Refusal<'a>>
+pub(crate) fn tell_nothing<'a, V: Out>(
+    alloc: Global,
+    why: &str,
+    err: &mut V,
+) -> Result<u8, Refusal<'a>>
     requires { V.faults err.old < 2 ^ 64 - 1 }
     ensures broken { IfOk result (λ status. status ≡ 1) }
     ensures untold { OnErr result (err.new ≡ err.old) }

@@ -11,6 +11,7 @@ mod learning;
 mod paging;
 mod parting;
 mod placing_words;
+mod planning;
 pub mod questions;
 mod recording;
 mod refusals;

@@ -2,7 +2,7 @@
 
 ghost use Rattle.std.specs.Prelude.{◌≡◌, map, option_map, string_bytes};
 ghost use Rattle.command_line.specs.Orders.{is_dashed};
-ghost use Rattle.answers.specs.Questions.{among, are_files, followed, learnt, most_states, of_command, of_files, of_pair, of_task, question_in};
+ghost use Rattle.answers.specs.Questions.{among, are_files, followed, learnt, most_states, of_command, of_files, of_pair, of_task, planned, question_in};
 ghost use Rattle.answers.specs.QuestionViews.{question_of};
 ghost use Rattle.texts.specs.Numbers.{at_most, number_of};
 
@@ -65,6 +65,15 @@ pub enum Question<'a> {
     },
     /// `learn CALLS` with any number of files of recorded calls: a task that they show.
     Learnt {
+        calls: &'a [String],
+    },
+    /// `plan LINE CALLS` with any number of files of recorded calls: their task with the mode behind a line of the first one.
+    Planned {
+        line: u32,
+        calls: &'a [String],
+    },
+    /// `plan CALLS`: the lines of the first file behind which fewer names are left that the mode refuses.
+    NamesLeft {
         calls: &'a [String],
     },
 }
@@ -171,6 +180,21 @@ fn learnt(calls: &[String]) -> Option<Question<'_>>
     }
 }
 
+/// A plan of recorded calls, with the mode behind the line of this number; without one, where it could be.
+fn planned<'a>(line: Option<u32>, words: &'a [String]) -> Option<Question<'a>>
+    ensures { option_map question_of result ≡ planned line (map string_bytes words.now) }
+{
+    match (line, words) {
+        (Some(_), [_]) => None,
+        (Some(line), [_, calls @ ..]) if are_files(calls) => Some(Question::Planned {
+            line,
+            calls,
+        }),
+        (None, calls) if are_files(calls) => Some(Question::NamesLeft { calls }),
+        _ => None,
+    }
+}
+
 /// What a command asks of a file and others behind it.
 fn of_files<'a>(command: &str, task: &'a str, others: &'a [String]) -> Option<Question<'a>>
     ensures { option_map question_of result ≡ of_files command.now task.now (map string_bytes others.now) }
@@ -191,6 +215,9 @@ fn of_command<'a>(command: &str, words: &'a [String]) -> Option<Question<'a>>
         [] if command == "--help" => Some(Question::Usage),
         [] => None,
         [_, ..] if command == "learn" => learnt(words),
+        [line, ..] if command == "plan" => {
+            planned(number_up_to(line.as_bytes(), u32::MAX).ok(), words)
+        }
         [task, others @ ..] => of_files(command, task.as_str(), others),
     }
 }

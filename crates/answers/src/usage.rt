@@ -19,5 +19,8 @@ capwhy follow TASK CALLS [REAL=MODEL ..]
                              whether recorded calls follow a task, whose places lie at MODEL where the record has REAL
 capwhy learn CALLS [CALLS ..]
                              a task of which these calls are runs, as a draft
-capwhy --help                this text, of version 1.8
+capwhy plan LINE CALLS [CALLS ..]
+                             the same with the mode behind a line of the first file, and whether check says yes
+capwhy plan CALLS            behind which lines fewer names are left that the mode refuses
+capwhy --help                this text, of version 1.9
 ";

@@ -1,9 +1,7 @@
 //! The automaton of a program: what is called from which state, and what comes next.
 
 use crate::room::Room;
-
-/// How many states an automaton has at most; a program has at most as many instructions.
-const MOST_STATES: usize = 256;
+use rights::limits::MAX_INSTRUCTIONS;
 
 /// How a call comes back.
 #[derive(Clone, Copy, PartialEq, Eq)]
@@ -48,7 +46,7 @@ pub(crate) struct State {
 #[derive(Drop)]
 pub(crate) struct Automaton {
     pub states: Vec<State>,
-    /// There were more states than there may be.
+    /// There were more states than a program may have instructions.
     pub is_full: bool,
 }
 
@@ -113,7 +111,7 @@ impl Automaton {
                 return at;
             }
         }
-        if self.states.len() >= MOST_STATES {
+        if self.states.len() >= MAX_INSTRUCTIONS {
             self.is_full = true;
             return 0;
         }

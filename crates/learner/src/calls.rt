@@ -1,7 +1,7 @@
 //! What a call of a record was given and came to.
 
 use records::{Binding, MadeCall, Operand, Outcome};
-use rights::{Call, Errno, Side};
+use rights::{Call, Errno, OpenFlags, Side};
 
 /// The number that stands for the directory of a path from the root, which no process has.
 pub(crate) const ROOT: u32 = u32::MAX;
@@ -77,14 +77,44 @@ pub(crate) fn end_of(made: &MadeCall, number: u32) -> Option<RecordedEnd> {
     None
 }
 
-/// Whether a file that isn't there is made by an open.
-pub(crate) fn creates(made: &MadeCall) -> bool {
-    for operand in &made.operands {
-        if let Operand::Flags(flags) = operand {
-            return flags.create();
+/// The number of the second end of a pair that a call made, and the pair.
+pub(crate) fn second_end(made: &MadeCall, answer: u32) -> Option<(u32, u32)> {
+    for binding in &made.bindings {
+        if let Binding::End {
+            descriptor,
+            pair,
+            ..
+        } = binding
+        {
+            if *descriptor != answer {
+                return Some((*descriptor, *pair));
+            }
         }
     }
-    false
+    None
+}
+
+/// How a call opens a file; of one that opens none, flags that nothing looks at.
+pub(crate) fn flags_of(made: &MadeCall) -> OpenFlags {
+    for operand in &made.operands {
+        if let Operand::Flags(flags) = operand {
+            return *flags;
+        }
+    }
+    OpenFlags::unused()
+}
+
+/// Whether a file that isn't there is made by an open.
+pub(crate) fn creates(made: &MadeCall) -> bool {
+    flags_of(made).create()
+}
+
+/// Whether a call makes, moves or removes a name.
+pub(crate) fn changes_names(made: &MadeCall) -> bool {
+    match made.call {
+        Call::Mkdir | Call::Mkdirat | Call::Unlink | Call::Unlinkat | Call::Renameat => true,
+        _ => creates(made),
+    }
 }
 
 /// Whether what is removed is a directory.

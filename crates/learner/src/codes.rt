@@ -2,10 +2,8 @@
 
 use crate::automata::{Automaton, Choice, State};
 use crate::room::Room;
+use rights::limits::MAX_INSTRUCTIONS;
 use texts::{Page, Say, parts_of, say};
-
-/// How many instructions a program has at most.
-const MOST_POINTS: usize = 256;
 
 /// How long what a label is made of is at most; a number may stand behind it.
 const MOST_OF_LABEL: usize = 12;
@@ -90,7 +88,9 @@ fn label_of(room: &mut Room, choice: &Choice) -> Vec<u8> {
 /// What is told of a call.
 fn remark_of(room: &mut Room, choice: &Choice) -> Vec<u8> {
     let place = choice.step.place.as_slice();
-    if place.is_empty() {
+    if choice.step.line == 0 {
+        room.copy(b"planned")
+    } else if place.is_empty() {
         room.text(parts_of!("line ", choice.step.line))
     } else {
         room.text(parts_of!("line ", choice.step.line, ": ", place))
@@ -361,7 +361,7 @@ impl Writer {
     /// Adds a block, and those that come behind it.
     fn place_on(&mut self, room: &mut Room, automaton: &Automaton, block: usize) {
         let mut next = Some(block);
-        for _ in 0..=MOST_POINTS {
+        for _ in 0..=MAX_INSTRUCTIONS {
             let Some(block) = next else {
                 break;
             };
@@ -383,9 +383,9 @@ impl Writer {
     fn place_all(&mut self, room: &mut Room, automaton: &Automaton) {
         let first = self.block(room, automaton, &[0], None);
         self.place_on(room, automaton, first);
-        for _ in 0..=MOST_POINTS {
+        for _ in 0..=MAX_INSTRUCTIONS {
             match self.unplaced() {
-                Some(block) if self.points <= MOST_POINTS => {
+                Some(block) if self.points <= MAX_INSTRUCTIONS => {
                     self.place_on(room, automaton, block);
                 }
                 _ => break,
@@ -486,6 +486,6 @@ pub(crate) fn code_of(room: &mut Room, automaton: &Automaton) -> Code {
 impl Code {
     /// Whether it is within the limits of a program.
     pub(crate) fn fits(&self) -> bool {
-        self.points <= MOST_POINTS
+        self.points <= MAX_INSTRUCTIONS
     }
 }

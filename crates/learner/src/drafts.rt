@@ -2,12 +2,13 @@
 
 use crate::codes::Code;
 use crate::needs::{Need, need_of};
+use crate::policies::Policy;
 use crate::room::Room;
 use crate::tables::{Held, Holding, Table};
 use crate::trees::{Deed, Link, Node, Presence, Tree};
-use crate::worlds::{WorldEnd, world_code};
-use rights::Side;
+use crate::worlds::{Footing, WorldEnd, world_code};
 use rights::limits::MAX_BYTES;
+use rights::{Op, Side};
 use texts::{Page, Say, parts_of, say};
 
 /// A program, and what its first process begins with.
@@ -27,10 +28,12 @@ enum Origin {
 
 /// A task on its way.
 #[derive(Drop)]
-pub(crate) struct Draft {
+pub(crate) struct Draft<'a> {
     pub programs: Vec<Program>,
     pub needs: Vec<Need>,
     pub tree: Tree,
+    /// The policy of the plan, if it is one's.
+    pub policy: Option<&'a Policy>,
     /// The pairs that are there from the start, in the order of their numbers.
     pairs: Vec<Origin>,
 }
@@ -64,18 +67,35 @@ fn side_name(side: Side) -> &'static str {
     }
 }
 
+/// Adds operations, as a grant lists them.
+fn add_operations(page: &mut Page, operations: &[Op]) {
+    for (at, operation) in operations.iter().enumerate() {
+        if at > 0 {
+            page.bytes(b", ");
+        }
+        say!(page; "\"", operation.name(), "\"");
+    }
+}
+
 /// Adds an end of a pair.
 fn add_end(page: &mut Page, number: usize, pair: usize, side: Side) {
     say!(page; "{number=", number, ", pair=", pair, ", side=\"", side_name(side), "\"}");
 }
 
-impl Draft {
-    /// Of programs, of what they ask of the world, and of a tree.
-    pub(crate) fn new(room: &Room, programs: Vec<Program>, needs: Vec<Need>, tree: Tree) -> Draft {
+impl<'a> Draft<'a> {
+    /// Of programs, of what they ask of the world, of a tree, and of a plan's policy, if there is one.
+    pub(crate) fn new(
+        room: &Room,
+        programs: Vec<Program>,
+        needs: Vec<Need>,
+        tree: Tree,
+        policy: Option<&'a Policy>,
+    ) -> Draft<'a> {
         Draft {
             programs,
             needs,
             tree,
+            policy,
             pairs: room.list(),
         }
     }
@@ -97,7 +117,7 @@ impl Draft {
         let (origin, side) = match held.holding {
             Holding::Node(_) => return None,
             Holding::World { first } => (Origin::World { program, first }, Side::A),
-            Holding::End { pair, side } => (Origin::Recorded(pair), side),
+            Holding::End { pair, side, .. } => (Origin::Recorded(pair), side),
         };
         Some((self.pair_of(room, origin), side))
     }
@@ -169,18 +189,28 @@ impl Draft {
         ends
     }
 
-    /// Whether the world moves something, for which it has the root.
-    fn moves(&self) -> bool {
-        for change in &self.tree.changes {
-            if change.deed == Deed::Moves {
-                return true;
+    /// The directories that the world has, to do something with the tree: those of the policy, or the root to move something.
+    fn world_directories(&self, room: &mut Room) -> Vec<Vec<u8>> {
+        let mut directories = room.list();
+        let changes = &self.tree.changes;
+        match self.policy {
+            Some(policy) if !changes.is_empty() => {
+                for ground in &policy.grounds {
+                    let place = room.copy(&ground.place);
+                    room.push(&mut directories, place);
+                }
             }
+            None if changes.iter().any(|change| change.deed == Deed::Moves) => {
+                let place = room.copy(b"/");
+                room.push(&mut directories, place);
+            }
+            _ => {}
         }
-        false
+        directories
     }
 
     /// Adds the process of the world.
-    fn add_world(&self, page: &mut Page) {
+    fn add_world(&self, page: &mut Page, directories: &[Vec<u8>]) {
         page.bytes(b" {program=\"world\", fd=[");
         let mut number = 0usize;
         for (pair, origin) in self.pairs.iter().enumerate() {
@@ -192,13 +222,33 @@ impl Draft {
                 number = number.saturating_add(1);
             }
         }
-        if self.moves() {
+        for place in directories {
             if number > 0 {
                 page.bytes(b", ");
             }
-            say!(page; "{number=", number, ", path=\"/\"}");
+            say!(page; "{number=", number, ", path=\"", place.as_slice(), "\"}");
+            number = number.saturating_add(1);
         }
         page.bytes(b"]}]\n");
+    }
+
+    /// Adds the grants.
+    fn add_grants(&self, room: &mut Room, page: &mut Page) {
+        page.bytes(b"grant = [");
+        if let Some(policy) = self.policy {
+            for (at, ground) in policy.grounds.iter().enumerate() {
+                let parting = if at == 0 {
+                    "\n {name=\""
+                } else {
+                    ",\n {name=\""
+                };
+                let name = policy.name_of(room, at);
+                say!(page; parting, name.as_slice(), "\", path=\"", ground.place.as_slice(), "\", ops=[");
+                add_operations(page, &ground.operations(room));
+                page.bytes(b"]}");
+            }
+        }
+        page.bytes(b"]\n");
     }
 
     /// Adds the tree.
@@ -213,24 +263,60 @@ impl Draft {
         page.bytes(b"]\n");
     }
 
-    /// Adds a program.
-    fn add_program(&self, page: &mut Page, name: &[u8], code: &[u8]) {
-        say!(page; "\n[[program]]\nname = \"", name, "\"\ncode = '''\n", code, "'''\n");
+    /// Adds the name of a program.
+    fn add_name(&self, page: &mut Page, name: &[u8]) {
+        say!(page; "\n[[program]]\nname = \"", name, "\"\n");
     }
 
-    /// Adds the task.
-    pub(crate) fn add(&mut self, room: &mut Room, page: &mut Page) {
-        self.add_tree(page);
-        page.bytes(b"grant = []\nprocess = [\n");
-        for program in 0..self.programs.len() {
-            self.add_process(room, page, program);
+    /// Adds the name of one of its programs.
+    pub(crate) fn add_name_of(&self, page: &mut Page, program: usize) {
+        if let Some(own) = self.programs.get(program) {
+            self.add_name(page, &own.name);
         }
-        self.add_world(page);
-        for program in &self.programs {
-            self.add_program(page, &program.name, &program.code.text);
+    }
+
+    /// Adds the code of a program.
+    fn add_code(&self, page: &mut Page, code: &[u8]) {
+        say!(page; "code = '''\n", code, "'''\n");
+    }
+
+    /// Adds the task up to one of its programs.
+    pub(crate) fn add_front(&mut self, room: &mut Room, page: &mut Page, program: usize) {
+        self.add_tree(page);
+        self.add_grants(room, page);
+        page.bytes(b"process = [\n");
+        for own in 0..self.programs.len() {
+            self.add_process(room, page, own);
+        }
+        let directories = self.world_directories(room);
+        self.add_world(page, &directories);
+        for (at, own) in self.programs.iter().enumerate() {
+            if at < program {
+                self.add_name(page, &own.name);
+                self.add_code(page, &own.code.text);
+            }
+        }
+    }
+
+    /// Adds the task from behind the name of one of its programs on.
+    pub(crate) fn add_back(&self, room: &mut Room, page: &mut Page, program: usize) {
+        for (at, own) in self.programs.iter().enumerate() {
+            if at > program {
+                self.add_name(page, &own.name);
+            }
+            if at >= program {
+                self.add_code(page, &own.code.text);
+            }
         }
         let ends = self.world_ends(room);
-        let world = world_code(room, &ends, &self.tree, ends.len());
-        self.add_program(page, b"world", &world);
+        let directories = self.world_directories(room);
+        let footing = Footing {
+            directories: &directories,
+            first: ends.len(),
+            moves_alone: self.policy.is_none(),
+        };
+        let world = world_code(room, &ends, &self.tree, footing);
+        self.add_name(page, b"world");
+        self.add_code(page, &world);
     }
 }

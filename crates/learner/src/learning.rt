@@ -5,12 +5,13 @@ use crate::codes::code_of;
 use crate::drafts::{Draft, Program};
 use crate::evidence::{add_evidence, add_links};
 use crate::needs::Need;
+use crate::policies::Policy;
 use crate::readings::offsets_of;
 use crate::room::Room;
 use crate::running::{Course, Learning, Level};
 use crate::starts::first_table;
 use crate::tables::Table;
-use crate::trees::Tree;
+use crate::trees::{Presence, Tree};
 use records::{Entry, Reason, first_processes};
 use rights::Memory;
 use rights::limits::MAX_PROCESSES;
@@ -27,6 +28,8 @@ pub enum LearnFault {
     Descriptors,
     /// No process makes a call.
     Nothing,
+    /// The first record has no call in the line.
+    Line,
 }
 
 impl From<Memory> for LearnFault {
@@ -45,7 +48,7 @@ const REASONS: [Reason; 6] = [
     Reason::Name,
 ];
 
-/// What is learnt on the way.
+/// What is learnt of the programs.
 #[derive(Drop)]
 struct Lessons {
     programs: Vec<Program>,
@@ -56,11 +59,24 @@ struct Lessons {
     is_over: bool,
 }
 
-/// The tree that records tell of.
-fn tree_of(room: &mut Room, records: &[Vec<Entry>]) -> Tree {
+/// What is learnt.
+#[derive(Drop)]
+pub(crate) struct Learnt {
+    tree: Tree,
+    lessons: Lessons,
+    level: Level,
+}
+
+/// The tree that records tell of, with the directories of a plan's policy, if it is one's.
+pub(crate) fn tree_of(room: &mut Room, records: &[Vec<Entry>], policy: Option<&Policy>) -> Tree {
     let mut tree = Tree::new(room);
     for entries in records {
         add_links(room, &mut tree, entries);
+    }
+    if let Some(policy) = policy {
+        for ground in &policy.grounds {
+            tree.there(room, &ground.place, Presence::Directory);
+        }
     }
     for entries in records {
         add_evidence(room, &mut tree, entries);
@@ -81,7 +97,7 @@ fn name_of(room: &mut Room, program: usize) -> Vec<u8> {
 }
 
 /// Learns the program of a record's first process, of the first processes that have this place in their records.
-fn learn_program(
+pub(crate) fn learn_program(
     room: &mut Room,
     tree: &mut Tree,
     records: &[Vec<Entry>],
@@ -90,7 +106,7 @@ fn learn_program(
 ) -> Result<Option<(Learning, Table)>, Memory> {
     let mut learning = Learning::new(room);
     let mut first = None;
-    for entries in records {
+    for (record, entries) in records.iter().enumerate() {
         let processes = first_processes(room.alloc(), entries)?;
         let Some(process) = processes.get(program) else {
             continue;
@@ -109,6 +125,7 @@ fn learn_program(
             tree,
             level,
             program,
+            record,
         };
         learning.run(room, &course, *process, table);
     }
@@ -182,7 +199,7 @@ fn calls_in(records: &[Vec<Entry>]) -> usize {
 }
 
 /// Adds how many calls there were, and how many are left out.
-fn add_counts(page: &mut Page, records: &[Vec<Entry>]) {
+pub(crate) fn add_counts(page: &mut Page, records: &[Vec<Entry>]) {
     say!(page; "# Learnt of ", calls_in(records), " calls. Left out:");
     for reason in REASONS {
         say!(page; " ", reason.name(), " ", left_out(records, reason));
@@ -201,37 +218,35 @@ fn meaning_of(level: Level) -> &'static str {
     }
 }
 
-/// Adds what is told of how it was learnt.
-fn add_head(page: &mut Page, records: &[Vec<Entry>], lessons: &Lessons, level: Level) {
-    add_counts(page, records);
-    say!(page; "# Where a program stands is ", meaning_of(level), ".\n");
-    say!(page; "# Calls of which no failure was seen, so that one leads to the end: ", lessons.unseen, ".\n");
-    if lessons.left_out > 0 {
-        say!(page; "# Calls that aren't here, by a descriptor of which nothing is known or a path that assembly can't have: ", lessons.left_out, ".\n");
+impl Learnt {
+    /// Adds what is told of how it was learnt.
+    pub(crate) fn add_head(&self, page: &mut Page) {
+        let lessons = &self.lessons;
+        say!(page; "# Where a program stands is ", meaning_of(self.level), ".\n");
+        say!(page; "# Calls of which no failure was seen, so that one leads to the end: ", lessons.unseen, ".\n");
+        if lessons.left_out > 0 {
+            say!(page; "# Calls that aren't here, by a descriptor of which nothing is known or a path that assembly can't have: ", lessons.left_out, ".\n");
+        }
+        page.bytes(
+            b"# The process of `world` is whoever the record talks to: any of its acts comes at any time.\n",
+        );
     }
-    page.bytes(
-        b"# The process of `world` is whoever the record talks to: any of its acts comes at any time.\n",
-    );
+
+    /// The task that is learnt, with the policy of a plan, if it is one's.
+    pub(crate) fn draft<'a>(self, room: &Room, policy: Option<&'a Policy>) -> Draft<'a> {
+        let Learnt { tree, lessons, .. } = self;
+        Draft::new(room, lessons.programs, lessons.needs, tree, policy)
+    }
 }
 
-/// The text of what was learnt.
-fn text_of(
+/// What is learnt at a level, if it fits.
+fn learn_at(
     room: &mut Room,
     records: &[Vec<Entry>],
-    tree: Tree,
-    lessons: Lessons,
+    policy: Option<&Policy>,
     level: Level,
-) -> Vec<u8> {
-    let mut page = Page::new(room.alloc());
-    add_head(&mut page, records, &lessons, level);
-    let mut draft = Draft::new(room, lessons.programs, lessons.needs, tree);
-    draft.add(room, &mut page);
-    room.bytes(page)
-}
-
-/// A task at a level, if it fits.
-fn learn_at(room: &mut Room, records: &[Vec<Entry>], level: Level) -> Result<Vec<u8>, LearnFault> {
-    let mut tree = tree_of(room, records);
+) -> Result<Learnt, LearnFault> {
+    let mut tree = tree_of(room, records, policy);
     let lessons = learn_programs(room, &mut tree, records, level)?;
     if room.is_short() {
         return Err(LearnFault::Memory);
@@ -245,7 +260,31 @@ fn learn_at(room: &mut Room, records: &[Vec<Entry>], level: Level) -> Result<Vec
     if !lessons.fits {
         return Err(LearnFault::Points);
     }
-    let text = text_of(room, records, tree, lessons, level);
+    Ok(Learnt {
+        tree,
+        lessons,
+        level,
+    })
+}
+
+/// What is learnt at the first level at which it fits, with a plan's policy, if it is one's.
+pub(crate) fn learnt_of(
+    room: &mut Room,
+    records: &[Vec<Entry>],
+    policy: Option<&Policy>,
+) -> Result<Learnt, LearnFault> {
+    for level in [Level::LastCall, Level::Table] {
+        match learn_at(room, records, policy, level) {
+            Err(LearnFault::Points) => {}
+            learnt => return learnt,
+        }
+    }
+    learn_at(room, records, policy, Level::Numbers)
+}
+
+/// The text of a page, if there was memory for all that it tells of.
+pub(crate) fn text_of(room: &mut Room, page: Page) -> Result<Vec<u8>, LearnFault> {
+    let text = room.bytes(page);
     if room.is_short() {
         return Err(LearnFault::Memory);
     }
@@ -256,11 +295,13 @@ fn learn_at(room: &mut Room, records: &[Vec<Entry>], level: Level) -> Result<Vec
 /// it: whether the records follow it is to be asked. (own)
 pub fn learn(alloc: Global, records: &[Vec<Entry>]) -> Result<Vec<u8>, LearnFault> {
     let mut room = Room::new(alloc);
-    for level in [Level::LastCall, Level::Table] {
-        match learn_at(&mut room, records, level) {
-            Err(LearnFault::Points) => {}
-            learnt => return learnt,
-        }
-    }
-    learn_at(&mut room, records, Level::Numbers)
+    let learnt = learnt_of(&mut room, records, None)?;
+    let mut page = Page::new(alloc);
+    add_counts(&mut page, records);
+    learnt.add_head(&mut page);
+    let mut draft = learnt.draft(&room, None);
+    draft.add_front(&mut room, &mut page, 0);
+    draft.add_name_of(&mut page, 0);
+    draft.add_back(&mut room, &mut page, 0);
+    text_of(&mut room, page)
 }

@@ -3,10 +3,8 @@
 use crate::calls::{answer_of, fails_with};
 use crate::room::Room;
 use records::MadeCall;
+use rights::limits::MAX_MESSAGES;
 use rights::{Call, Errno};
-
-/// How many messages may lie between the ends of a pair.
-const MOST_WAITING: usize = 16;
 
 /// What is asked of the other side of an end that the processes of a program begin with, told by its number there.
 #[derive(Clone, Copy)]
@@ -24,7 +22,7 @@ pub(crate) struct Need {
 impl Need {
     /// Whether bytes have to be taken from it, since no more would fit.
     pub(crate) fn takes(&self) -> bool {
-        self.written > MOST_WAITING
+        self.written > MAX_MESSAGES
     }
 
     /// Notes a call through the end.

@@ -37,6 +37,17 @@ pub(crate) fn behind<'a>(place: &[u8], beneath: &'a [u8]) -> Option<&'a [u8]> {
     }
 }
 
+/// The path from a directory to a place beneath it, or nothing where it is the directory itself.
+pub(crate) fn path_from<'a>(directory: &[u8], place: &'a [u8]) -> Option<&'a [u8]> {
+    let whole = if directory == b"/".as_slice() {
+        b"".as_slice()
+    } else {
+        directory
+    };
+    let rest = behind(whole, place)?;
+    Some(rest.strip_prefix(b"/".as_slice()).unwrap_or(rest))
+}
+
 /// Goes up by a name.
 fn drop_name(place: &mut Vec<u8>) {
     let length = above(place).len();

@@ -41,6 +41,16 @@ impl Room {
         }
     }
 
+    /// Adds a number to others at a place, or behind them.
+    pub(crate) fn insert(&mut self, list: &mut Vec<usize>, place: usize, number: usize) {
+        self.push(list, number);
+        for at in (place..list.len().saturating_sub(1)).rev() {
+            if at + 1 < list.len() {
+                list.swap(at, at + 1);
+            }
+        }
+    }
+
     /// Adds bytes to others.
     pub(crate) fn extend(&mut self, list: &mut Vec<u8>, bytes: &[u8]) {
         if list.extend_from_slice(bytes).is_err() {

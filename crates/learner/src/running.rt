@@ -2,13 +2,15 @@
 
 use crate::assembly::{assembly_of, subject_of};
 use crate::automata::{Arrival, Automaton, Step};
-use crate::calls::{answer_of, end_of, makes_descriptor, number_at, path_at, path_place, place_of};
+use crate::calls::{
+    answer_of, end_of, makes_descriptor, number_at, path_at, path_place, place_of, second_end,
+};
 use crate::evidence::place_in;
 use crate::needs::{Need, add_need};
 use crate::room::Room;
 use crate::tables::{Holding, Table};
 use crate::trees::Tree;
-use records::{Binding, Entry, Event, MadeCall};
+use records::{Entry, Event, MadeCall};
 use rights::{Call, Side};
 use texts::{Page, Say, parts_of, say};
 
@@ -43,8 +45,18 @@ pub(crate) struct Course<'a> {
     pub offsets: &'a [u32],
     pub tree: &'a Tree,
     pub level: Level,
-    /// The program's place among the programs.
+    /// The program's place among the programs, and the record's among the records.
     pub program: usize,
+    pub record: usize,
+}
+
+/// The state in which a process is behind an entry.
+#[derive(Clone, Copy)]
+pub(crate) struct Visit {
+    pub record: usize,
+    pub process: u32,
+    pub entry: usize,
+    pub state: usize,
 }
 
 /// What is learnt of it.
@@ -56,6 +68,8 @@ pub(crate) struct Learning {
     pub left_out: usize,
     /// A process held more descriptors than one may.
     pub is_over: bool,
+    /// Where the processes stood behind each of their calls.
+    pub visits: Vec<Visit>,
     /// The processes that were forked and weren't run yet.
     forked: Vec<Running>,
 }
@@ -72,6 +86,7 @@ fn holding_of(room: &mut Room, tree: &Tree, made: &MadeCall, answer: u32) -> Hol
             Holding::End {
                 pair: end.pair,
                 side: end.side,
+                made: 0,
             }
         };
     }
@@ -90,23 +105,6 @@ fn opened(room: &mut Room, made: &MadeCall) -> Vec<u8> {
         Some(place) if path_at(made, 0) != Some(place) => room.copy(place),
         _ => room.list(),
     }
-}
-
-/// The number of the second end of a pair that a call made, and the pair.
-fn second_end(made: &MadeCall, answer: u32) -> Option<(u32, u32)> {
-    for binding in &made.bindings {
-        if let Binding::End {
-            descriptor,
-            pair,
-            ..
-        } = binding
-        {
-            if *descriptor != answer {
-                return Some((*descriptor, *pair));
-            }
-        }
-    }
-    None
 }
 
 impl Running {
@@ -134,13 +132,16 @@ impl Running {
     /// Takes both ends of a new pair. Whether there are numbers for them is told.
     fn take_pair(&mut self, room: &mut Room, made: &MadeCall, answer: u32) -> bool {
         let (second, pair) = second_end(made, answer).unwrap_or((answer, answer));
+        let made = self.state;
         let first = Holding::End {
             pair,
             side: Side::A,
+            made,
         };
         let other = Holding::End {
             pair,
             side: Side::B,
+            made,
         };
         self.take(room, answer, first) && self.take(room, second, other)
     }
@@ -230,6 +231,7 @@ impl Learning {
             needs: room.list(),
             left_out: 0,
             is_over: false,
+            visits: room.list(),
             forked: room.list(),
         }
     }
@@ -346,6 +348,13 @@ impl Learning {
                 for _ in 0..course.messages_of(at) {
                     self.step(room, course, running, made, at, entry.span.first);
                 }
+                let visit = Visit {
+                    record: course.record,
+                    process: running.process,
+                    entry: at,
+                    state: running.state,
+                };
+                room.push(&mut self.visits, visit);
                 false
             }
         }

@@ -47,6 +47,7 @@ fn holding_of(room: &mut Room, tree: &Tree, made: &MadeCall, number: u32, short:
         Some(end) if end.pair > 0 => Holding::End {
             pair: end.pair,
             side: end.side,
+            made: 0,
         },
         _ => Holding::World { first: short },
     }

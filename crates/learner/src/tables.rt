@@ -13,8 +13,8 @@ pub(crate) enum Holding {
     Node(Vec<u8>),
     /// An end of a pair whose other side the world has: one of those that the process begins with, by its number, or a copy of it.
     World { first: u8 },
-    /// An end of a pair.
-    End { pair: u32, side: Side },
+    /// An end of a pair, and the state of the program in which that was made; 0 of one that was there before.
+    End { pair: u32, side: Side, made: usize },
 }
 
 /// A descriptor of a process.
@@ -40,9 +40,10 @@ impl Holding {
         match self {
             Holding::Node(place) => Holding::Node(room.copy(place)),
             Holding::World { first } => Holding::World { first: *first },
-            Holding::End { pair, side } => Holding::End {
+            Holding::End { pair, side, made } => Holding::End {
                 pair: *pair,
                 side: *side,
+                made: *made,
             },
         }
     }
@@ -206,17 +207,17 @@ impl Table {
         match holding {
             Holding::Node(place) => page.bytes(place),
             Holding::World { first } => say!(page; "world ", *first),
-            Holding::End { pair, side } => {
+            Holding::End { pair, side, made } => {
                 let side = match side {
                     Side::A => "a",
                     Side::B => "b",
                 };
-                say!(page; "pair ", self.first_of(*pair), " ", side);
+                say!(page; "pair ", self.first_of(*pair), " ", side, " of ", *made);
             }
         }
     }
 
-    /// Adds what tells it from other tables. Pairs are told by where they stand in it.
+    /// Adds what tells it from other tables. Pairs are told by where they stand in it and where they were made.
     pub(crate) fn add_key(&self, page: &mut Page) {
         for number in 0..MAX_DESCRIPTORS as u8 {
             if let Some(held) = self.at(number) {

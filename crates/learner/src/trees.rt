@@ -101,6 +101,15 @@ impl Tree {
         }
     }
 
+    /// Whether a directory stands at a place from the start.
+    pub(crate) fn begins_with_directory(&self, place: &[u8]) -> bool {
+        if place == b"/".as_slice() {
+            return true;
+        }
+        let node = self.number_of(place).and_then(|at| self.nodes.get(at));
+        node.is_some_and(|node| node.first == Presence::Directory)
+    }
+
     /// What is known to stand at a place.
     fn at(&self, place: &[u8]) -> Option<Presence> {
         let number = self.number_of(place)?;

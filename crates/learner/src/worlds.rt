@@ -1,6 +1,7 @@
 //! The program of whoever the record talks to.
 
 use crate::needs::Need;
+use crate::places::path_from;
 use crate::room::Room;
 use crate::trees::{Change, Deed, Tree};
 use texts::{Page, Say, parts_of, say};
@@ -36,8 +37,50 @@ fn add_need(page: &mut Page, acts: &mut usize, number: usize, need: &Need) {
 /// How many bytes the world writes into a file at most.
 const MOST_WRITTEN: usize = 16;
 
+/// The directories that the world has, the first of them at this number.
+#[derive(Clone, Copy)]
+pub(crate) struct Footing<'a> {
+    pub directories: &'a [Vec<u8>],
+    pub first: usize,
+    /// It moves alone by them, and does all else by paths.
+    pub moves_alone: bool,
+}
+
+impl<'a> Footing<'a> {
+    /// Adds the number of the directory at or above a place, and the path from it. Whether there is one is told.
+    fn add_path(&self, page: &mut Page, place: &[u8]) -> bool {
+        for (at, directory) in self.directories.iter().enumerate() {
+            if let Some(path) = path_from(directory, place) {
+                let number = self.first.saturating_add(at);
+                say!(page; " ", number, " \"", path, "\"");
+                return true;
+            }
+        }
+        false
+    }
+
+    /// A call of what stands at a place: by a directory, or by the path alone.
+    fn call(&self, room: &mut Room, call: &str, place: &[u8]) -> Vec<u8> {
+        let mut path = Page::new(room.alloc());
+        if !self.moves_alone && self.add_path(&mut path, place) {
+            room.text(parts_of!(call, "at", &path))
+        } else {
+            room.text(parts_of!(call, " \"", place, "\""))
+        }
+    }
+
+    /// The call by which what stands at a place is moved to another one.
+    fn moving(&self, room: &mut Room, from: &[u8], to: &[u8]) -> Vec<u8> {
+        let mut path = Page::new(room.alloc());
+        path.bytes(b"renameat");
+        self.add_path(&mut path, from);
+        self.add_path(&mut path, to);
+        room.bytes(path)
+    }
+}
+
 /// Adds that a file is made that so many bytes can be read of.
-fn add_making(page: &mut Page, acts: &mut usize, place: &[u8], length: usize) {
+fn add_making(page: &mut Page, acts: &mut usize, call: &[u8], length: usize) {
     let mut writes = Page::new(page.alloc());
     for _ in 0..length.min(MOST_WRITTEN) {
         writes.bytes(b"        write r1 65 else next\n");
@@ -46,61 +89,55 @@ fn add_making(page: &mut Page, acts: &mut usize, place: &[u8], length: usize) {
         page,
         acts,
         parts_of!(
-            "open \"",
-            place,
-            "\" write,create else next\n        mov r1 r0\n",
+            call,
+            " write,create else next\n        mov r1 r0\n",
             &writes,
             "        close r1 else next\n"
         ),
     );
 }
 
-/// A place as a path from the root's directory.
-fn from_root(place: &[u8]) -> &[u8] {
-    place.strip_prefix(b"/".as_slice()).unwrap_or(place)
-}
-
-/// Adds that what stands at a place is moved to another one, by the number of the root.
-fn add_move(page: &mut Page, acts: &mut usize, root: usize, from: &[u8], to: &[u8]) {
-    let from = from_root(from);
-    let to = from_root(to);
-    add_act(
-        page,
-        acts,
-        parts_of!(
-            "renameat ",
-            root,
-            " \"",
-            from,
-            "\" ",
-            root,
-            " \"",
-            to,
-            "\" else next\n"
-        ),
-    );
-}
-
-/// Adds what is done with the tree. What is moved is reached from the root, at its number.
-fn add_change(page: &mut Page, acts: &mut usize, tree: &Tree, root: usize, change: &Change) {
+/// Adds what is done with the tree.
+fn add_change(
+    room: &mut Room,
+    page: &mut Page,
+    acts: &mut usize,
+    tree: &Tree,
+    footing: Footing<'_>,
+    change: &Change,
+) {
     let place = change.place.as_slice();
     match change.deed {
-        Deed::MakesFile => add_making(page, acts, place, tree.length_of(place)),
-        Deed::MakesDirectory => add_act(page, acts, parts_of!("mkdir \"", place, "\" else next\n")),
-        Deed::RemovesFile => add_act(page, acts, parts_of!("unlink \"", place, "\" else next\n")),
-        Deed::RemovesDirectory => {
-            add_act(
-                page,
-                acts,
-                parts_of!("unlink \"", place, "\" dir else next\n"),
-            );
+        Deed::MakesFile => {
+            let call = footing.call(room, "open", place);
+            add_making(page, acts, &call, tree.length_of(place));
         }
-        Deed::Moves => add_move(page, acts, root, place, &change.target),
+        Deed::MakesDirectory => {
+            let call = footing.call(room, "mkdir", place);
+            add_act(page, acts, parts_of!(call.as_slice(), " else next\n"));
+        }
+        Deed::RemovesFile => {
+            let call = footing.call(room, "unlink", place);
+            add_act(page, acts, parts_of!(call.as_slice(), " else next\n"));
+        }
+        Deed::RemovesDirectory => {
+            let call = footing.call(room, "unlink", place);
+            add_act(page, acts, parts_of!(call.as_slice(), " dir else next\n"));
+        }
+        Deed::Moves => {
+            let call = footing.moving(room, place, &change.target);
+            add_act(page, acts, parts_of!(call.as_slice(), " else next\n"));
+        }
     }
 }
 
 /// The program of the world: it does any of what is asked of it, any number of times.
-pub(crate) fn world_code(room: &mut Room, ends: &[WorldEnd], tree: &Tree, root: usize) -> Vec<u8> {
+pub(crate) fn world_code(
+    room: &mut Room,
+    ends: &[WorldEnd],
+    tree: &Tree,
+    footing: Footing<'_>,
+) -> Vec<u8> {
     let mut acts = 0usize;
     let mut page = Page::new(room.alloc());
     for end in ends {
@@ -109,7 +146,7 @@ pub(crate) fn world_code(room: &mut Room, ends: &[WorldEnd], tree: &Tree, root: 
         }
     }
     for change in &tree.changes {
-        add_change(&mut page, &mut acts, tree, root, change);
+        add_change(room, &mut page, &mut acts, tree, footing, change);
     }
     let mut whole = Page::new(room.alloc());
     whole.bytes(b"next:   in r6\n");

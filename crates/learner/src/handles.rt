@@ -1,0 +1,358 @@
+//! The descriptors of a record's processes, each from the call that gives it to the one that closes it.
+
+use crate::calls::{RecordedEnd, answer_of, end_of, number_at, place_of, second_end};
+use crate::room::Room;
+use crate::trees::Tree;
+use records::{Entry, Event, MadeCall};
+use rights::{Call, Side};
+
+/// How many numbers are input, output and errors.
+const STANDARD: u32 = 3;
+
+/// A descriptor of a process.
+#[derive(Drop)]
+pub(crate) struct Handle {
+    pub process: u32,
+    pub number: u32,
+    /// The place of the node that it is of; none of an end of a pair.
+    pub place: Option<Vec<u8>>,
+    /// The descriptor whose rights it has: the one that it is a copy of, or the directory beneath which it was opened.
+    pub source: Option<usize>,
+    /// The entry that gave it; none where its process began with it.
+    pub made: Option<usize>,
+    /// The entry that closed it.
+    pub closed: Option<usize>,
+    /// It is the input, output or errors with which a first process began.
+    pub is_standard: bool,
+}
+
+/// The descriptors that an entry names, and those that it makes, by their places in the list of them.
+#[derive(Clone, Copy)]
+pub(crate) struct Naming {
+    pub first: Option<usize>,
+    pub second: Option<usize>,
+    /// The first that it makes, and how many.
+    pub made: usize,
+    pub count: usize,
+}
+
+/// A descriptor that was sent.
+#[derive(Clone, Copy)]
+struct Sent {
+    pair: u32,
+    from: Side,
+    handle: usize,
+    is_taken: bool,
+}
+
+/// The descriptors of a record, and for each entry which it names and makes.
+#[derive(Drop)]
+pub(crate) struct Handles {
+    pub list: Vec<Handle>,
+    pub namings: Vec<Naming>,
+    /// Those that are open at the entry that is looked at.
+    open: Vec<usize>,
+    sent: Vec<Sent>,
+}
+
+/// The place in a call of its second descriptor.
+fn second_place(call: Call) -> Option<usize> {
+    match call {
+        Call::Sendfd => Some(1),
+        Call::Renameat => Some(2),
+        _ => None,
+    }
+}
+
+impl Handle {
+    /// Whether it is open behind an entry.
+    pub(crate) fn is_open_behind(&self, entry: usize) -> bool {
+        let is_made = match self.made {
+            Some(made) => made <= entry,
+            None => true,
+        };
+        let is_closed = match self.closed {
+            Some(closed) => closed <= entry,
+            None => false,
+        };
+        is_made && !is_closed
+    }
+}
+
+impl Handles {
+    /// Which descriptor a number of a process is.
+    fn position(&self, process: u32, number: u32) -> Option<usize> {
+        for at in &self.open {
+            if let Some(handle) = self.list.get(*at) {
+                if handle.process == process && handle.number == number {
+                    return Some(*at);
+                }
+            }
+        }
+        None
+    }
+
+    /// Notes that a number of a process is closed.
+    fn close(&mut self, process: u32, number: u32, entry: usize) {
+        let Some(position) = self.position(process, number) else {
+            return;
+        };
+        if let Some(handle) = self.list.get_mut(position) {
+            handle.closed = Some(entry);
+        }
+        for at in 0..self.open.len() {
+            if self.open.get(at).copied() == Some(position) && at < self.open.len() {
+                self.open.swap_remove(at);
+                return;
+            }
+        }
+    }
+
+    /// Adds a descriptor.
+    fn add(&mut self, room: &mut Room, handle: Handle) {
+        if let Some(entry) = handle.made {
+            self.close(handle.process, handle.number, entry);
+        }
+        let at = self.list.len();
+        room.push(&mut self.open, at);
+        room.push(&mut self.list, handle);
+    }
+
+    /// The place of a descriptor's node once more.
+    fn place_of(&self, room: &mut Room, at: Option<usize>) -> Option<Vec<u8>> {
+        let handle = self.list.get(at?)?;
+        let place = handle.place.as_ref()?;
+        Some(room.copy(place))
+    }
+
+    /// Whether a process had a descriptor of this number.
+    fn had(&self, process: u32, number: u32) -> bool {
+        self.list
+            .iter()
+            .any(|own| own.process == process && own.number == number)
+    }
+
+    /// The descriptor of a number that a call is given. One that isn't known yet is noted: the process began with it, or if it had another of
+    /// that number, a call that is left out gave it.
+    fn named(
+        &mut self,
+        room: &mut Room,
+        tree: &Tree,
+        entry: &Entry,
+        made: &MadeCall,
+        operand: usize,
+        at: usize,
+    ) -> Option<usize> {
+        let number = number_at(made, operand)?;
+        if let Some(position) = self.position(entry.process, number) {
+            return Some(position);
+        }
+        let is_late = self.had(entry.process, number);
+        let is_standard = number < STANDARD && !is_late;
+        let place = match place_of(made, number) {
+            Some(place) if !is_standard => Some(tree.resolve(room, b"/", place)),
+            _ => None,
+        };
+        if place.is_none() && !is_standard && end_of(made, number).is_none() {
+            return None;
+        }
+        let handle = Handle {
+            process: entry.process,
+            number,
+            place,
+            source: None,
+            made: if is_late { Some(at) } else { None },
+            closed: None,
+            is_standard,
+        };
+        self.add(room, handle);
+        Some(self.list.len().saturating_sub(1))
+    }
+
+    /// Adds a descriptor that a call makes.
+    fn make(
+        &mut self,
+        room: &mut Room,
+        entry: &Entry,
+        at: usize,
+        number: u32,
+        place: Option<Vec<u8>>,
+        source: Option<usize>,
+    ) {
+        let handle = Handle {
+            process: entry.process,
+            number,
+            place,
+            source,
+            made: Some(at),
+            closed: None,
+            is_standard: false,
+        };
+        self.add(room, handle);
+    }
+
+    /// Notes that a descriptor is sent.
+    fn send(&mut self, room: &mut Room, made: &MadeCall, handle: Option<usize>) {
+        let end = number_at(made, 0).and_then(|number| end_of(made, number));
+        if let (Some(RecordedEnd { pair, side }), Some(handle)) = (end, handle) {
+            let sent = Sent {
+                pair,
+                from: side,
+                handle,
+                is_taken: false,
+            };
+            room.push(&mut self.sent, sent);
+        }
+    }
+
+    /// The descriptor that comes by a call.
+    fn receive(&mut self, made: &MadeCall) -> Option<usize> {
+        let end = end_of(made, number_at(made, 0)?)?;
+        for sent in self.sent.iter_mut() {
+            if !sent.is_taken && sent.pair == end.pair && sent.from != end.side {
+                sent.is_taken = true;
+                return Some(sent.handle);
+            }
+        }
+        None
+    }
+
+    /// Adds what a new process has.
+    fn fork(&mut self, room: &mut Room, entry: &Entry, at: usize, child: u32) {
+        for position in 0..self.list.len() {
+            let place = self.place_of(room, Some(position));
+            let Some(handle) = self.list.get(position) else {
+                break;
+            };
+            if handle.process == entry.process && handle.is_open_behind(at) {
+                let copy = Handle {
+                    process: child,
+                    number: handle.number,
+                    place,
+                    source: Some(position),
+                    made: Some(at),
+                    closed: None,
+                    is_standard: handle.is_standard,
+                };
+                self.add(room, copy);
+            }
+        }
+    }
+
+    /// Notes what a call that succeeded made and closed.
+    fn add_answer(
+        &mut self,
+        room: &mut Room,
+        tree: &Tree,
+        entry: &Entry,
+        made: &MadeCall,
+        at: usize,
+        naming: &Naming,
+        answer: u32,
+    ) {
+        match made.call {
+            Call::Open | Call::Openat | Call::Recvfd => {
+                let place = place_of(made, answer).map(|place| tree.resolve(room, b"/", place));
+                let source = match made.call {
+                    Call::Openat => naming.first,
+                    Call::Recvfd => self.receive(made),
+                    _ => None,
+                };
+                self.make(room, entry, at, answer, place, source);
+            }
+            Call::Dup => {
+                let place = self.place_of(room, naming.first);
+                self.make(room, entry, at, answer, place, naming.first);
+            }
+            Call::Socketpair => {
+                let (second, _) = second_end(made, answer).unwrap_or((answer, answer));
+                self.make(room, entry, at, answer, None, None);
+                self.make(room, entry, at, second, None, None);
+            }
+            Call::Fork => self.fork(room, entry, at, answer),
+            Call::Close => self.close(entry.process, number_at(made, 0).unwrap_or(answer), at),
+            Call::Sendfd => self.send(room, made, naming.second),
+            _ => {}
+        }
+    }
+
+    /// Notes what a call names and makes.
+    fn add_call(
+        &mut self,
+        room: &mut Room,
+        tree: &Tree,
+        entry: &Entry,
+        made: &MadeCall,
+        at: usize,
+    ) -> Naming {
+        let first = self.named(room, tree, entry, made, 0, at);
+        let second = second_place(made.call).and_then(|place| self.named(
+            room, tree, entry, made, place, at,
+        ));
+        let mut naming = Naming {
+            first,
+            second,
+            made: self.list.len(),
+            count: 0,
+        };
+        if let Some(answer) = answer_of(made) {
+            self.add_answer(room, tree, entry, made, at, &naming, answer);
+        }
+        naming.count = self.list.len().saturating_sub(naming.made);
+        naming
+    }
+
+    /// The descriptors of a record.
+    pub(crate) fn new(room: &mut Room, tree: &Tree, entries: &[Entry]) -> Handles {
+        let mut handles = Handles {
+            list: room.list(),
+            namings: room.list(),
+            open: room.list(),
+            sent: room.list(),
+        };
+        for (at, entry) in entries.iter().enumerate() {
+            let mut naming = Naming {
+                first: None,
+                second: None,
+                made: handles.list.len(),
+                count: 0,
+            };
+            if let Event::Called(made) = &entry.event {
+                naming = handles.add_call(room, tree, entry, made, at);
+            }
+            room.push(&mut handles.namings, naming);
+        }
+        handles
+    }
+
+    /// Which descriptor a number of a process is behind an entry, if it is known.
+    pub(crate) fn position_at(&self, process: u32, number: u32, entry: usize) -> Option<usize> {
+        for (at, handle) in self.list.iter().enumerate() {
+            if handle.process == process
+                && handle.number == number
+                && handle.is_open_behind(entry)
+            {
+                return Some(at);
+            }
+        }
+        None
+    }
+
+    /// The descriptor that a number of a process is behind an entry, if it is known.
+    pub(crate) fn held_at(&self, process: u32, number: u32, entry: usize) -> Option<&Handle> {
+        self.list.get(self.position_at(process, number, entry)?)
+    }
+
+    /// What an entry names and makes.
+    pub(crate) fn naming(&self, at: usize) -> Naming {
+        match self.namings.get(at) {
+            Some(naming) => *naming,
+            None => Naming {
+                first: None,
+                second: None,
+                made: 0,
+                count: 0,
+            },
+        }
+    }
+}
