@@ -3,6 +3,7 @@
 use crate::folding::folded;
 use crate::scenes::Scene;
 use crate::topics::Topic;
+use std::alloc::{AllocError, Global};
 use texts::{Page, say};
 
 /// What is observed.
@@ -17,6 +18,56 @@ pub struct Observation {
     pub joint: &'static str,
     /// What is said behind the points.
     pub more: Page,
+}
+
+/// Observations as they are gathered. Where memory is refused for some, it goes on without them, and `finish` says so.
+#[derive(Drop)]
+pub(crate) struct Observed {
+    alloc: Global,
+    list: Vec<Observation>,
+    is_short: bool,
+}
+
+impl Observed {
+    /// None yet.
+    pub(crate) fn new(alloc: Global) -> Observed {
+        Observed {
+            alloc,
+            list: Vec::new(alloc),
+            is_short: false,
+        }
+    }
+
+    /// Where their memory comes from.
+    pub(crate) fn alloc(&self) -> Global {
+        self.alloc
+    }
+
+    /// Adds an observation behind the others.
+    pub(crate) fn add(&mut self, observation: Observation) {
+        if self.list.push(observation).is_err() {
+            self.is_short = true;
+        }
+    }
+
+    /// What was gathered to be observed; nothing, where memory was refused for that.
+    pub(crate) fn gathered<T: Drop>(&mut self, list: Result<Vec<T>, AllocError>) -> Vec<T> {
+        match list {
+            Ok(items) => items,
+            Err(AllocError) => {
+                self.is_short = true;
+                Vec::new(self.alloc)
+            }
+        }
+    }
+
+    /// The observations, if there was memory for all.
+    pub(crate) fn finish(self) -> Result<Vec<Observation>, AllocError> {
+        if self.is_short {
+            return Err(AllocError);
+        }
+        Ok(self.list)
+    }
 }
 
 /// Adds points as ranges: `3, 5 to 9`.

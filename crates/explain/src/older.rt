@@ -12,18 +12,22 @@ const FURTHEST: usize = 16;
 
 /// The points of a program that a certificate gives a bound.
 fn points_of(alloc: Global, cert: &Cert, program: &[u8]) -> Result<Vec<usize>, AllocError> {
-    cert.points()
-        .iter()
-        .filter(|point| point.program().as_bytes() == program)
-        .map(|point| usize::from(point.point()))
-        .collect(alloc)
+    let mut points = Vec::new(alloc);
+    for point in cert.points() {
+        if point.program().as_bytes() == program {
+            points.push(usize::from(point.point()))?;
+        }
+    }
+    Ok(points)
 }
 
 /// For each point of a program whether something names it.
 fn named_points(alloc: Global, code: &[Instruction]) -> Result<Vec<bool>, AllocError> {
-    (0..code.len())
-        .map(|point| is_named(code, point))
-        .collect(alloc)
+    let mut flags = Vec::new(alloc);
+    for point in 0..code.len() {
+        flags.push(is_named(code, point))?;
+    }
+    Ok(flags)
 }
 
 /// How points have moved: those from one on, so far on or back.
@@ -48,10 +52,13 @@ impl Move {
 
     /// Whether each point has come to one whose flag is set.
     fn fits(&self, points: &[usize], flags: &[bool]) -> bool {
-        points.iter().all(|&point| match self.place(point) {
-            Some(place) => flags.get(place) == Some(&true),
-            None => false,
-        })
+        for point in points {
+            match self.place(*point) {
+                Some(place) if flags.get(place) == Some(&true) => {}
+                _ => return false,
+            }
+        }
+        true
     }
 }
 
@@ -69,6 +76,18 @@ fn shortest_move(points: &[usize], flags: &[bool]) -> Option<Move> {
         }
     }
     None
+}
+
+/// The shortest move by which the points that a certificate bounds of a program come to such as something names.
+fn move_of(
+    alloc: Global,
+    cert: &Cert,
+    name: &[u8],
+    code: &[Instruction],
+) -> Result<Option<Move>, AllocError> {
+    let points = points_of(alloc, cert, name)?;
+    let flags = named_points(alloc, code)?;
+    Ok(shortest_move(&points, &flags))
 }
 
 /// A program whose points have moved, and how.
@@ -91,9 +110,7 @@ pub(crate) fn moved_programs<'a>(
     }
     for program in task.programs() {
         let name = program.name.as_bytes();
-        let points = points_of(alloc, cert, name)?;
-        let flags = named_points(alloc, program.program.code())?;
-        if let Some(by) = shortest_move(&points, &flags) {
+        if let Some(by) = move_of(alloc, cert, name, program.program.code())? {
             if by.far != 0 {
                 list.push(MovedProgram { name, by })?;
             }

@@ -1,7 +1,7 @@
 //! How remarks are told.
 
 use crate::beyond::{beyond_at_all, points_beyond};
-use crate::observations::{Observation, add_points};
+use crate::observations::{Observation, Observed, add_points};
 use crate::scenes::Scene;
 use crate::topics::Topic;
 use crate::unneeded::unneeded;
@@ -49,12 +49,10 @@ fn joint_of(remark: &Remark) -> &'static str {
 fn add_of_number(page: &mut Page, remark: &Remark) {
     match remark {
         Remark::Stray { number } => {
-            say!(page; "descriptor ", *number, " may hold what lies in no grant");
-            say!(page; ", and the report has no line of it, in the mode")
+            say!(page; "descriptor ", *number, " may hold what lies in no grant, and the report has no line of it, in the mode")
         }
         Remark::Idle { number } => {
-            say!(page; "descriptor ", *number, " is held in the mode and never named from there on");
-            say!(page; ", so it can be closed")
+            say!(page; "descriptor ", *number, " is held in the mode and never named from there on, so it can be closed")
         }
         Remark::Rights { number, most } => {
             say!(page; "descriptor ", *number, " could be limited to ", *most);
@@ -83,8 +81,7 @@ fn add_text(page: &mut Page, name: &[u8], remark: &Remark) {
         Remark::NeverEnters =>
             say!(page; name, " never enters the mode, and a yes does not bound what it does to the tree"),
         Remark::Untrusted => {
-            say!(page; "in the mode ", name, " may do anything with what its authority has");
-            say!(page; ", and its points bound it outside the mode alone")
+            say!(page; "in the mode ", name, " may do anything with what its authority has, and its points bound it outside the mode alone")
         }
         Remark::Unreached {
             outside_alone: false,
@@ -143,23 +140,18 @@ fn told_beyond(alloc: Global, number: u32, rights: Rights, points: Vec<usize>) -
 }
 
 /// Adds which numbers of a program have rights beyond the policy.
-fn add_beyond(
-    alloc: Global,
-    list: &mut Vec<Observation>,
-    scene: &Scene<'_>,
-    named: &NamedProgram,
-) -> Result<(), AllocError> {
+fn add_beyond(observed: &mut Observed, scene: &Scene<'_>, named: &NamedProgram) {
+    let alloc = observed.alloc();
     let grants = scene.task.grants();
     let code = named.program.code();
-    let bounds = bounds_on(alloc, scene.cert, named)?;
+    let bounds = observed.gathered(bounds_on(alloc, scene.cert, named));
     for number in 0..MAX_DESCRIPTORS as u32 {
-        let points = points_beyond(alloc, grants, code, &bounds, number)?;
+        let points = observed.gathered(points_beyond(alloc, grants, code, &bounds, number));
         if !points.is_empty() {
             let rights = beyond_at_all(grants, code, &bounds, number, &points);
-            list.push(told_beyond(alloc, number, rights, points))?;
+            observed.add(told_beyond(alloc, number, rights, points));
         }
     }
-    Ok(())
 }
 
 /// The remarks on a program of a task, by its number: with the bounds of the certificate, if there is one.
@@ -169,17 +161,17 @@ pub fn program_remarks(
     program: usize,
     has_cert: bool,
 ) -> Result<Vec<Observation>, AllocError> {
-    let mut list = Vec::new(alloc);
-    let Some(named) = scene.task.programs().get(program) else {
-        return Ok(list);
-    };
-    for remarked in remarks_on(alloc, scene.task, scene.cert, program, has_cert)? {
-        list.push(told(alloc, named.name.as_bytes(), remarked))?;
+    let mut observed = Observed::new(alloc);
+    if let Some(named) = scene.task.programs().get(program) {
+        let remarks = remarks_on(alloc, scene.task, scene.cert, program, has_cert);
+        for remarked in observed.gathered(remarks) {
+            observed.add(told(alloc, named.name.as_bytes(), remarked));
+        }
+        if has_cert {
+            add_beyond(&mut observed, scene, named);
+        }
     }
-    if has_cert {
-        add_beyond(alloc, &mut list, scene, named)?;
-    }
-    Ok(list)
+    observed.finish()
 }
 
 /// What a remark on a task is about.
@@ -233,17 +225,27 @@ fn told_unneeded(alloc: Global, scene: &Scene<'_>, grant: &Grant, operation: Op)
 }
 
 /// Adds which operations grants list that nothing needs.
-fn add_unneeded(
-    alloc: Global,
-    list: &mut Vec<Observation>,
-    scene: &Scene<'_>,
-) -> Result<(), AllocError> {
+fn add_unneeded(observed: &mut Observed, scene: &Scene<'_>) {
+    let alloc = observed.alloc();
     for grant in scene.task.grants() {
-        for operation in &unneeded(alloc, scene.task, scene.cert, grant)? {
-            list.push(told_unneeded(alloc, scene, grant, *operation))?;
+        let operations = unneeded(alloc, scene.task, scene.cert, grant);
+        for operation in &observed.gathered(operations) {
+            observed.add(told_unneeded(alloc, scene, grant, *operation));
         }
     }
-    Ok(())
+}
+
+/// A remark on a task in words.
+fn told_of_task(alloc: Global, remark: TaskRemark<'_>) -> Observation {
+    let mut words = Page::new(alloc);
+    add_task_text(&mut words, remark);
+    Observation {
+        topic: topic_of_task_remark(remark),
+        words,
+        points: Vec::new(alloc),
+        joint: "",
+        more: Page::new(alloc),
+    }
 }
 
 /// The remarks on a task as a whole: with the bounds of the certificate, if there is one.
@@ -252,20 +254,12 @@ pub fn task_remarks(
     scene: &Scene<'_>,
     has_cert: bool,
 ) -> Result<Vec<Observation>, AllocError> {
-    let mut list = Vec::new(alloc);
-    for remark in remarks_on_task(alloc, scene.task)? {
-        let mut words = Page::new(alloc);
-        add_task_text(&mut words, remark);
-        list.push(Observation {
-            topic: topic_of_task_remark(remark),
-            words,
-            points: Vec::new(alloc),
-            joint: "",
-            more: Page::new(alloc),
-        })?;
+    let mut observed = Observed::new(alloc);
+    for remark in observed.gathered(remarks_on_task(alloc, scene.task)) {
+        observed.add(told_of_task(alloc, remark));
     }
     if has_cert {
-        add_unneeded(alloc, &mut list, scene)?;
+        add_unneeded(&mut observed, scene);
     }
-    Ok(list)
+    observed.finish()
 }

@@ -1,6 +1,6 @@
 //! How warnings are told: where FreeBSD does otherwise, at a point, and what to write.
 
-use crate::observations::Observation;
+use crate::observations::{Observation, Observed};
 use crate::topics::Topic;
 use certificate::Cert;
 use remarks::{
@@ -8,7 +8,7 @@ use remarks::{
     widest_ceilings,
 };
 use std::alloc::{AllocError, Global};
-use task::{Start, Task};
+use task::{FirstDescriptor, Start, Task};
 use texts::{Name, Page, say};
 
 /// What is warned of.
@@ -32,11 +32,10 @@ enum Subject {
     Ceiling(Name),
 }
 
-/// What FreeBSD does there, what to write, and the part of docs/FREEBSD.md that says more.
+/// What FreeBSD does there and what to write, and the part of docs/FREEBSD.md that says more.
 #[derive(Clone, Copy)]
 struct Words {
-    what: &'static str,
-    write: &'static str,
+    text: &'static str,
     part: &'static str,
 }
 
@@ -44,33 +43,27 @@ struct Words {
 fn words_of_difference(difference: Difference) -> Words {
     match difference {
         Difference::AbsolutePath => Words {
-            what: "outside the mode an absolute path is looked up from the root, with all rights",
-            write: "open",
+            text: "outside the mode an absolute path is looked up from the root, with all rights; write open",
             part: "absolute-paths",
         },
         Difference::WayOut => Words {
-            what: "outside the mode `..` and links lead out of a directory that isn't limited",
-            write: "a limit before it",
+            text: "outside the mode `..` and links lead out of a directory that isn't limited; write a limit before it",
             part: "ways-out-of-a-directory",
         },
         Difference::LastLink => Words {
-            what: "outside the mode a file is made where a last link leads, beneath a directory that isn't limited",
-            write: "a limit before it",
+            text: "outside the mode a file is made where a last link leads, beneath a directory that isn't limited; write a limit before it",
             part: "a-last-link-that-is-created",
         },
         Difference::CommandsGone => Words {
-            what: "a descriptor without FCNTL has no command to keep",
-            write: "this limit before that of rights, or none",
+            text: "a descriptor without FCNTL has no command to keep; write this limit before that of rights, or none",
             part: "commands-without-fcntl",
         },
         Difference::NoNumberLeft => Words {
-            what: "all sixteen numbers may be open, and a process may have more",
-            write: "a close before it",
+            text: "all sixteen numbers may be open, and a process may have more; write a close before it",
             part: "sixteen-numbers",
         },
         Difference::UnlistedLook => Words {
-            what: "LOOKUP reads the texts of links, and READ lists a directory",
-            write: "look into the grant's ops",
+            text: "LOOKUP reads the texts of links, and READ lists a directory; write look into the grant's ops",
             part: "what-a-right-does-beyond-its-calls",
         },
     }
@@ -81,38 +74,31 @@ fn words_of(matter: Matter) -> Words {
     match matter {
         Matter::Differs(difference) => words_of_difference(difference),
         Matter::FailedClose => Words {
-            what: "a close that fails may free the number",
-            write: "an else that leads to a halt",
+            text: "a close that fails may free the number; write an else that leads to a halt",
             part: "a-close-that-fails",
         },
         Matter::NoSandbox => Words {
-            what: "a kernel may have no capability mode",
-            write: "an else that leads to a halt",
+            text: "a kernel may have no capability mode; write an else that leads to a halt",
             part: "no-sandbox-at-all",
         },
         Matter::TakesMore => Words {
-            what: "has more rights or commands than a task can name",
-            write: "a limit of both before it",
+            text: "has more rights or commands than a task can name; write a limit of both before it",
             part: "more-calls-and-rights",
         },
         Matter::StartsWithMore => Words {
-            what: "starts with more rights or commands than a task can name",
-            write: "rights and fcntls",
+            text: "starts with more rights or commands than a task can name; write rights and fcntls",
             part: "more-calls-and-rights",
         },
         Matter::Directory => Words {
-            what: "is a directory: READ lists its names, and LOOKUP reads the texts of its links",
-            write: "look into the grant's ops, or a limit before it",
+            text: "is a directory: READ lists its names, and LOOKUP reads the texts of its links; write look into the grant's ops, or a limit before it",
             part: "what-a-right-does-beyond-its-calls",
         },
         Matter::WidestCeiling => Words {
-            what: "has all rights, more than a task can name",
-            write: "limits before the mode is entered",
+            text: "has all rights, more than a task can name; write limits before the mode is entered",
             part: "more-calls-and-rights",
         },
         Matter::PryingCeiling => Words {
-            what: "has LOOKUP, which reads the texts of links",
-            write: "look into the grant's ops",
+            text: "has LOOKUP, which reads the texts of links; write look into the grant's ops",
             part: "what-a-right-does-beyond-its-calls",
         },
     }
@@ -127,75 +113,95 @@ fn add_subject(page: &mut Page, subject: Subject) {
     }
 }
 
-/// The warnings on a program, as they are gathered.
-#[derive(Drop)]
-struct Warned {
-    alloc: Global,
-    list: Vec<Observation>,
+/// Adds a warning at a point.
+fn add(observed: &mut Observed, point: usize, subject: Subject, matter: Matter) {
+    let alloc = observed.alloc();
+    let said = words_of(matter);
+    let mut words = Page::new(alloc);
+    add_subject(&mut words, subject);
+    say!(&mut words; said.text);
+    let points = observed.gathered(Vec::from_slice(alloc, &[point]));
+    observed.add(Observation {
+        topic: Topic::FreeBsd(said.part),
+        words,
+        points,
+        joint: " at ",
+        more: Page::new(alloc),
+    })
 }
 
-impl Warned {
-    /// Adds a warning at a point.
-    fn add(&mut self, point: usize, subject: Subject, matter: Matter) -> Result<(), AllocError> {
-        let said = words_of(matter);
-        let mut words = Page::new(self.alloc);
-        add_subject(&mut words, subject);
-        say!(&mut words; said.what, "; write ", said.write);
-        let points = vec![in self.alloc; point]?;
-        self.list.push(Observation {
-            topic: Topic::FreeBsd(said.part),
-            words,
-            points,
-            joint: " at ",
-            more: Page::new(self.alloc),
-        })?;
-        Ok(())
+/// Adds what is warned of at a point.
+fn add_point(observed: &mut Observed, point: usize, warnings: &Warnings) {
+    for difference in &warnings.differences {
+        add(observed, point, Subject::Call, Matter::Differs(*difference));
     }
+    if warnings.failed_close {
+        add(observed, point, Subject::Call, Matter::FailedClose);
+    }
+    if warnings.no_sandbox {
+        add(observed, point, Subject::Call, Matter::NoSandbox);
+    }
+    for number in &warnings.numbers {
+        add(
+            observed,
+            point,
+            Subject::Descriptor(*number),
+            Matter::TakesMore,
+        );
+    }
+    for number in &warnings.directories {
+        add(
+            observed,
+            point,
+            Subject::Descriptor(*number),
+            Matter::Directory,
+        );
+    }
+}
 
-    /// Adds what is warned of at a point.
-    fn add_point(&mut self, point: usize, warnings: &Warnings) -> Result<(), AllocError> {
-        for difference in &warnings.differences {
-            self.add(point, Subject::Call, Matter::Differs(*difference))?;
-        }
-        if warnings.failed_close {
-            self.add(point, Subject::Call, Matter::FailedClose)?;
-        }
-        if warnings.no_sandbox {
-            self.add(point, Subject::Call, Matter::NoSandbox)?;
-        }
-        for number in &warnings.numbers {
-            self.add(point, Subject::Descriptor(*number), Matter::TakesMore)?;
-        }
-        for number in &warnings.directories {
-            self.add(point, Subject::Descriptor(*number), Matter::Directory)?;
-        }
-        Ok(())
+/// Adds the ceilings of an untrusted program that have all rights, and those that let names be looked up where the grant doesn't list
+/// looking.
+fn add_ceilings(observed: &mut Observed, task: &Task, bounds: &Cert, name: &Name) {
+    let widest = widest_ceilings(observed.alloc(), bounds, name);
+    for ceiling in &observed.gathered(widest) {
+        add(
+            observed,
+            0,
+            Subject::Ceiling(*ceiling.grant()),
+            Matter::WidestCeiling,
+        );
     }
+    let prying = prying_ceilings(observed.alloc(), task.grants(), bounds, name);
+    for ceiling in &observed.gathered(prying) {
+        add(
+            observed,
+            0,
+            Subject::Ceiling(*ceiling.grant()),
+            Matter::PryingCeiling,
+        );
+    }
+}
 
-    /// Adds the ceilings of an untrusted program that have all rights, and those that let names be looked up where the grant doesn't list
-    /// looking.
-    fn add_ceilings(&mut self, task: &Task, bounds: &Cert, name: &Name) -> Result<(), AllocError> {
-        for ceiling in &widest_ceilings(self.alloc, bounds, name)? {
-            self.add(0, Subject::Ceiling(*ceiling.grant()), Matter::WidestCeiling)?;
-        }
-        for ceiling in &prying_ceilings(self.alloc, task.grants(), bounds, name)? {
-            self.add(0, Subject::Ceiling(*ceiling.grant()), Matter::PryingCeiling)?;
-        }
-        Ok(())
+/// Adds a warning of each first descriptor among these.
+fn add_first(observed: &mut Observed, descriptors: &[FirstDescriptor], matter: Matter) {
+    for first in descriptors {
+        add(
+            observed,
+            0,
+            Subject::Descriptor(u32::from(first.number)),
+            matter,
+        );
     }
+}
 
-    /// Adds what a process of an untrusted program that starts in the mode has more of, and its directories that can be listed.
-    fn add_start(&mut self, task: &Task, start: &Start) -> Result<(), AllocError> {
-        for first in &more_at_start(self.alloc, start)? {
-            let subject = Subject::Descriptor(u32::from(first.number));
-            self.add(0, subject, Matter::StartsWithMore)?;
-        }
-        for first in &directories_at_start(self.alloc, task, start)? {
-            let subject = Subject::Descriptor(u32::from(first.number));
-            self.add(0, subject, Matter::Directory)?;
-        }
-        Ok(())
-    }
+/// Adds what a process of an untrusted program that starts in the mode has more of, and its directories that can be listed.
+fn add_start(observed: &mut Observed, task: &Task, start: &Start) {
+    let more = more_at_start(observed.alloc(), start);
+    let more = observed.gathered(more);
+    add_first(observed, &more, Matter::StartsWithMore);
+    let directories = directories_at_start(observed.alloc(), task, start);
+    let directories = observed.gathered(directories);
+    add_first(observed, &directories, Matter::Directory)
 }
 
 /// The warnings on a program of a task, by its number and by the bounds of a certificate in which all are written.
@@ -205,23 +211,20 @@ pub fn program_warnings(
     bounds: &Cert,
     program: usize,
 ) -> Result<Vec<Observation>, AllocError> {
-    let list = Vec::new(alloc);
-    let mut warned = Warned { alloc, list };
-    for (point, warnings) in warnings_on(alloc, task, bounds, program)?
-        .iter()
-        .enumerate()
-    {
-        warned.add_point(point, warnings)?;
+    let mut observed = Observed::new(alloc);
+    let of_points = observed.gathered(warnings_on(alloc, task, bounds, program));
+    for (point, warnings) in of_points.iter().enumerate() {
+        add_point(&mut observed, point, warnings);
     }
     if let Some(named) = task.programs().get(program) {
-        warned.add_ceilings(task, bounds, &named.name)?;
+        add_ceilings(&mut observed, task, bounds, &named.name);
         if named.untrusted {
             for start in task.starts() {
                 if start.mode && usize::from(start.program) == program {
-                    warned.add_start(task, start)?;
+                    add_start(&mut observed, task, start);
                 }
             }
         }
     }
-    Ok(warned.list)
+    observed.finish()
 }
