@@ -1,7 +1,7 @@
 //! The text of a task, of what was learnt.
 
 use crate::codes::Code;
-use crate::needs::{Need, need_of};
+use crate::needs::{Ends, Need, need_of};
 use crate::policies::Policy;
 use crate::room::Room;
 use crate::tables::{Held, Holding, Table};
@@ -115,7 +115,7 @@ impl<'a> Draft<'a> {
     fn end_of(&mut self, room: &mut Room, program: usize, at: usize) -> Option<(usize, Side)> {
         let held = self.programs.get(program)?.table.held.get(at)?;
         let (origin, side) = match held.holding {
-            Holding::Node(_) => return None,
+            Holding::Node(_) | Holding::Connection { .. } => return None,
             Holding::World { first } => (Origin::World { program, first }, Side::A),
             Holding::End { pair, side, .. } => (Origin::Recorded(pair), side),
         };
@@ -182,8 +182,16 @@ impl<'a> Draft<'a> {
         for origin in &self.pairs {
             if let Origin::World { program, first } = *origin {
                 let number = ends.len();
-                let need = need_of(&self.needs, program, first);
-                room.push(&mut ends, WorldEnd { number, need });
+                let need = need_of(&self.needs, Ends::Own { program, first });
+                let connections = need_of(&self.needs, Ends::Connections { program, first });
+                room.push(
+                    &mut ends,
+                    WorldEnd {
+                        number,
+                        need,
+                        connections,
+                    },
+                );
             }
         }
         ends

@@ -3,8 +3,8 @@
 use crate::calls::answer_of;
 use crate::room::Room;
 use crate::running::{Learning, Visit};
-use records::{Entry, Event, MadeCall, first_processes};
-use rights::{Call, Memory};
+use records::{Entry, Event, MadeCall};
+use rights::Call;
 
 /// A process, and the entry behind which it enters the mode.
 #[derive(Clone, Copy)]
@@ -44,11 +44,7 @@ fn parent_of(entries: &[Entry], process: u32) -> Option<u32> {
 }
 
 /// The place among a record's first processes of the one of which a process comes.
-pub(crate) fn program_of(
-    room: &Room,
-    entries: &[Entry],
-    process: u32,
-) -> Result<Option<usize>, Memory> {
+pub(crate) fn program_of(room: &mut Room, entries: &[Entry], process: u32) -> Option<usize> {
     let mut first = process;
     for _ in 0..entries.len() {
         match parent_of(entries, first) {
@@ -56,8 +52,7 @@ pub(crate) fn program_of(
             None => break,
         }
     }
-    let processes = first_processes(room.alloc(), entries)?;
-    Ok(processes.iter().position(|own| *own == first))
+    room.processes(entries).iter().position(|own| *own == first)
 }
 
 /// The state in which a process of a record is behind an entry.

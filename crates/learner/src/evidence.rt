@@ -4,10 +4,10 @@ use crate::calls::{
     ROOT, answer_of, creates, fails_with, number_at, path_at, path_place, place_of,
     removes_directory,
 };
-use crate::places::{above, last_name, place_at};
+use crate::places::{above, behind, last_name, place_at};
 use crate::room::Room;
 use crate::trees::{Presence, Tree};
-use records::{Entry, Event, MadeCall};
+use records::{Binding, Entry, Event, MadeCall};
 use rights::{Call, Errno};
 
 /// The place of the directory from which the path in a place goes on, if it is known.
@@ -46,12 +46,41 @@ pub(crate) fn place_in(
     Some(tree.resolve(room, directory, path))
 }
 
-/// Notes the link by which a path led to another place.
-fn add_link(room: &mut Room, tree: &mut Tree, path: &[u8], place: &[u8]) {
+/// Whether a call's descriptor is of what lies at a place or beneath it.
+fn tells_of(made: &MadeCall, place: &[u8]) -> bool {
+    for binding in &made.bindings {
+        if let Binding::Place { place: own, .. } = binding {
+            if behind(place, own).is_some() {
+                return true;
+            }
+        }
+    }
+    false
+}
+
+/// Whether a descriptor of records is of what lies at a place or beneath it: then no link stands there.
+fn is_told_of(records: &[Vec<Entry>], place: &[u8]) -> bool {
+    for entries in records {
+        for entry in entries {
+            if let Event::Called(made) = &entry.event {
+                if tells_of(made, place) {
+                    return true;
+                }
+            }
+        }
+    }
+    false
+}
+
+/// Notes the link by which a path led to another place: as far up as both have the same names behind it, and as a link may stand there.
+fn add_link(room: &mut Room, tree: &mut Tree, records: &[Vec<Entry>], path: &[u8], place: &[u8]) {
     let mut from = path;
     let mut to = place;
     for _ in 0..path.len() {
-        if last_name(from) != last_name(to) || above(from) == b"/".as_slice() {
+        if last_name(from) != last_name(to)
+            || above(from) == b"/".as_slice()
+            || is_told_of(records, above(from))
+        {
             break;
         }
         from = above(from);
@@ -63,7 +92,7 @@ fn add_link(room: &mut Room, tree: &mut Tree, path: &[u8], place: &[u8]) {
 }
 
 /// Notes the link by which an open led to another place.
-fn add_link_of(room: &mut Room, tree: &mut Tree, made: &MadeCall) {
+fn add_link_of(room: &mut Room, tree: &mut Tree, records: &[Vec<Entry>], made: &MadeCall) {
     if !matches!(made.call, Call::Open | Call::Openat) {
         return;
     }
@@ -72,16 +101,29 @@ fn add_link_of(room: &mut Room, tree: &mut Tree, made: &MadeCall) {
         return;
     };
     if let Some(place) = answer_of(made).and_then(|answer| place_of(made, answer)) {
-        add_link(room, tree, &path, place);
+        if path.as_slice() != place {
+            add_link(room, tree, records, &path, place);
+        }
     }
 }
 
-/// Notes the links by which the opens of a record led to other places.
-pub(crate) fn add_links(room: &mut Room, tree: &mut Tree, entries: &[Entry]) {
-    for entry in entries {
-        if let Event::Called(made) = &entry.event {
-            add_link_of(room, tree, made);
+/// Notes the links by which the opens of records led to other places.
+pub(crate) fn add_links(room: &mut Room, tree: &mut Tree, records: &[Vec<Entry>]) {
+    for entries in records {
+        for entry in entries {
+            if let Event::Called(made) = &entry.event {
+                add_link_of(room, tree, records, made);
+            }
         }
+    }
+}
+
+/// What a path leads to that leads to something: a directory, if it ends in a slash, `.` or `..`.
+fn kind_of(made: &MadeCall) -> Presence {
+    let path = path_place(made.call).and_then(|at| path_at(made, at));
+    match path.map(last_name) {
+        Some([] | [b'.'] | [b'.', b'.']) => Presence::Directory,
+        _ => Presence::File,
     }
 }
 
@@ -92,7 +134,7 @@ fn add_success(room: &mut Room, tree: &mut Tree, made: &MadeCall, place: &[u8]) 
             if creates(made) {
                 tree.made(room, place, Presence::File, true);
             } else {
-                tree.there(room, place, Presence::File);
+                tree.there(room, place, kind_of(made));
             }
         }
         Call::Mkdir | Call::Mkdirat => tree.made(room, place, Presence::Directory, false),
@@ -104,7 +146,7 @@ fn add_success(room: &mut Room, tree: &mut Tree, made: &MadeCall, place: &[u8]) 
             };
             tree.removed(room, place, presence);
         }
-        _ => tree.there(room, place, Presence::File),
+        _ => tree.there(room, place, kind_of(made)),
     }
 }
 

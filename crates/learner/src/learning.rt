@@ -4,6 +4,8 @@ use crate::accounts::messages_of;
 use crate::codes::code_of;
 use crate::drafts::{Draft, Program};
 use crate::evidence::{add_evidence, add_links};
+use crate::late_starts::begun_late;
+use crate::merging::with_names_merged;
 use crate::needs::Need;
 use crate::policies::Policy;
 use crate::readings::offsets_of;
@@ -12,8 +14,7 @@ use crate::running::{Course, Learning, Level};
 use crate::starts::first_table;
 use crate::tables::Table;
 use crate::trees::{Presence, Tree};
-use records::{Entry, Reason, first_processes};
-use rights::Memory;
+use records::{Entry, Reason};
 use rights::limits::MAX_PROCESSES;
 use std::alloc::Global;
 use texts::{Page, Say, parts_of, say};
@@ -32,9 +33,14 @@ pub enum LearnFault {
     Line,
 }
 
-impl From<Memory> for LearnFault {
-    fn from(_: Memory) -> LearnFault {
-        LearnFault::Memory
+impl LearnFault {
+    /// This one, or that memory was refused, if it was.
+    pub(crate) fn unless_short(self, room: &Room) -> LearnFault {
+        if room.is_short() {
+            LearnFault::Memory
+        } else {
+            self
+        }
     }
 }
 
@@ -70,9 +76,7 @@ pub(crate) struct Learnt {
 /// The tree that records tell of, with the directories of a plan's policy, if it is one's.
 pub(crate) fn tree_of(room: &mut Room, records: &[Vec<Entry>], policy: Option<&Policy>) -> Tree {
     let mut tree = Tree::new(room);
-    for entries in records {
-        add_links(room, &mut tree, entries);
-    }
+    add_links(room, &mut tree, records);
     if let Some(policy) = policy {
         for ground in &policy.grounds {
             tree.there(room, &ground.place, Presence::Directory);
@@ -103,11 +107,11 @@ pub(crate) fn learn_program(
     records: &[Vec<Entry>],
     level: Level,
     program: usize,
-) -> Result<Option<(Learning, Table)>, Memory> {
+) -> Option<(Learning, Table)> {
     let mut learning = Learning::new(room);
     let mut first = None;
     for (record, entries) in records.iter().enumerate() {
-        let processes = first_processes(room.alloc(), entries)?;
+        let processes = room.processes(entries);
         let Some(process) = processes.get(program) else {
             continue;
         };
@@ -129,7 +133,7 @@ pub(crate) fn learn_program(
         };
         learning.run(room, &course, *process, table);
     }
-    Ok(first.map(|table| (learning, table)))
+    first.map(|table| (learning, table))
 }
 
 impl Lessons {
@@ -154,7 +158,7 @@ fn learn_programs(
     tree: &mut Tree,
     records: &[Vec<Entry>],
     level: Level,
-) -> Result<Lessons, Memory> {
+) -> Lessons {
     let mut lessons = Lessons {
         programs: room.list(),
         needs: room.list(),
@@ -164,12 +168,12 @@ fn learn_programs(
         is_over: false,
     };
     for program in 0..MAX_PROCESSES {
-        match learn_program(room, tree, records, level, program)? {
+        match learn_program(room, tree, records, level, program) {
             Some((learning, table)) => lessons.add(room, learning, table),
             None => break,
         }
     }
-    Ok(lessons)
+    lessons
 }
 
 /// How many entries of records are left out for a reason.
@@ -223,7 +227,7 @@ impl Learnt {
     pub(crate) fn add_head(&self, page: &mut Page) {
         let lessons = &self.lessons;
         say!(page; "# Where a program stands is ", meaning_of(self.level), ".\n");
-        say!(page; "# Calls of which no failure was seen, so that one leads to the end: ", lessons.unseen, ".\n");
+        say!(page; "# Calls of which no failure was seen, those with `else fail`: ", lessons.unseen, ".\n");
         if lessons.left_out > 0 {
             say!(page; "# Calls that aren't here, by a descriptor of which nothing is known or a path that assembly can't have: ", lessons.left_out, ".\n");
         }
@@ -247,12 +251,9 @@ fn learn_at(
     level: Level,
 ) -> Result<Learnt, LearnFault> {
     let mut tree = tree_of(room, records, policy);
-    let lessons = learn_programs(room, &mut tree, records, level)?;
-    if room.is_short() {
-        return Err(LearnFault::Memory);
-    }
-    if lessons.programs.is_empty() {
-        return Err(LearnFault::Nothing);
+    let lessons = learn_programs(room, &mut tree, records, level);
+    if room.is_short() || lessons.programs.is_empty() {
+        return Err(LearnFault::Nothing.unless_short(room));
     }
     if lessons.is_over {
         return Err(LearnFault::Descriptors);
@@ -291,17 +292,39 @@ pub(crate) fn text_of(room: &mut Room, page: Page) -> Result<Vec<u8>, LearnFault
     Ok(text)
 }
 
-/// The text of a task, of the calls of runs of one program: the tree, the processes and the programs that they show. Nothing is claimed of
-/// it: whether the records follow it is to be asked. (own)
+/// The text of a task of records that are changed as is told.
+fn text_learnt(
+    room: &mut Room,
+    records: &[Vec<Entry>],
+    told: &Page,
+) -> Result<Vec<u8>, LearnFault> {
+    let learnt = learnt_of(room, records, None)?;
+    let mut page = Page::new(room.alloc());
+    add_counts(&mut page, records);
+    page.page(told);
+    learnt.add_head(&mut page);
+    let mut draft = learnt.draft(room, None);
+    draft.add_front(room, &mut page, 0);
+    draft.add_name_of(&mut page, 0);
+    draft.add_back(room, &mut page, 0);
+    text_of(room, page)
+}
+
+/// The text of a task, of the calls of runs of one program: the tree, the processes and the programs that they show. Where a program would
+/// have more than 256 instructions, processes begin behind the last program that they went on as; and where that is still so, names of one
+/// directory with which the same is done are one. Nothing is claimed of it: whether the records follow it is to be asked. (own)
 pub fn learn(alloc: Global, records: &[Vec<Entry>]) -> Result<Vec<u8>, LearnFault> {
     let mut room = Room::new(alloc);
-    let learnt = learnt_of(&mut room, records, None)?;
-    let mut page = Page::new(alloc);
-    add_counts(&mut page, records);
-    learnt.add_head(&mut page);
-    let mut draft = learnt.draft(&room, None);
-    draft.add_front(&mut room, &mut page, 0);
-    draft.add_name_of(&mut page, 0);
-    draft.add_back(&mut room, &mut page, 0);
-    text_of(&mut room, page)
+    let mut told = Page::new(alloc);
+    match text_learnt(&mut room, records, &told) {
+        Err(LearnFault::Points) => {}
+        learnt => return learnt,
+    }
+    let late = begun_late(&mut room, records, &mut told);
+    match text_learnt(&mut room, &late, &told) {
+        Err(LearnFault::Points) => {}
+        learnt => return learnt,
+    }
+    let merged = with_names_merged(&mut room, &late, &mut told);
+    text_learnt(&mut room, &merged, &told)
 }

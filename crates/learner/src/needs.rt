@@ -6,20 +6,38 @@ use records::MadeCall;
 use rights::limits::MAX_MESSAGES;
 use rights::{Call, Errno};
 
-/// What is asked of the other side of an end that the processes of a program begin with, told by its number there.
+/// Ends whose other side the world has.
+#[derive(Clone, Copy, PartialEq, Eq)]
+pub(crate) enum Ends {
+    /// One that the processes of a program begin with, told by its number there, and its copies.
+    Own { program: usize, first: u8 },
+    /// Those of the connections that come through such a one.
+    Connections { program: usize, first: u8 },
+}
+
+/// What is asked of the other side of ends.
 #[derive(Clone, Copy)]
 pub(crate) struct Need {
-    pub program: usize,
-    pub first: u8,
+    pub ends: Ends,
     /// Bytes come from it.
     pub gives: bool,
     /// It is closed.
-    pub ends: bool,
+    pub closes: bool,
     /// How many bytes go to it.
     pub written: usize,
 }
 
 impl Need {
+    /// Nothing is asked of it.
+    pub(crate) fn nothing(ends: Ends) -> Need {
+        Need {
+            ends,
+            gives: false,
+            closes: false,
+            written: 0,
+        }
+    }
+
     /// Whether bytes have to be taken from it, since no more would fit.
     pub(crate) fn takes(&self) -> bool {
         self.written > MAX_MESSAGES
@@ -28,14 +46,14 @@ impl Need {
     /// Notes a call through the end.
     fn note(&mut self, made: &MadeCall) {
         match (made.call, answer_of(made)) {
-            (Call::Read, Some(0)) => self.ends = true,
+            (Call::Read, Some(0)) => self.closes = true,
             (Call::Read, Some(_)) => self.gives = true,
             (Call::Write | Call::Sendfd, Some(_)) => {
                 self.written = self.written.saturating_add(1);
             }
             (Call::Write | Call::Sendfd, None) => {
                 if fails_with(made, Errno::EPIPE) {
-                    self.ends = true;
+                    self.closes = true;
                 }
             }
             _ => {}
@@ -43,47 +61,41 @@ impl Need {
     }
 }
 
-/// Which need is of an end.
-fn position(needs: &[Need], program: usize, first: u8) -> Option<usize> {
+/// Which need is of ends.
+fn position(needs: &[Need], ends: Ends) -> Option<usize> {
     for (at, need) in needs.iter().enumerate() {
-        if need.program == program && need.first == first {
+        if need.ends == ends {
             return Some(at);
         }
     }
     None
 }
 
-/// What is asked of the other side of an end, if it is anything.
-pub(crate) fn need_of(needs: &[Need], program: usize, first: u8) -> Option<Need> {
-    let at = position(needs, program, first)?;
-    needs.get(at).copied()
+/// What is asked of the other side of ends, if it is anything.
+pub(crate) fn need_of(needs: &[Need], ends: Ends) -> Option<Need> {
+    needs.get(position(needs, ends)?).copied()
 }
 
-/// Notes a call through an end of a program's processes.
-pub(crate) fn add_need(
-    room: &mut Room,
-    needs: &mut Vec<Need>,
-    program: usize,
-    first: u8,
-    made: &MadeCall,
-) {
-    let at = match position(needs, program, first) {
+/// Which need is of ends; one that isn't known yet is added.
+fn place(room: &mut Room, needs: &mut Vec<Need>, ends: Ends) -> usize {
+    match position(needs, ends) {
         Some(at) => at,
         None => {
-            room.push(
-                needs,
-                Need {
-                    program,
-                    first,
-                    gives: false,
-                    ends: false,
-                    written: 0,
-                },
-            );
+            room.push(needs, Need::nothing(ends));
             needs.len().saturating_sub(1)
         }
-    };
+    }
+}
+
+/// Notes a call through ends.
+pub(crate) fn add_need(room: &mut Room, needs: &mut Vec<Need>, ends: Ends, made: &MadeCall) {
+    let at = place(room, needs, ends);
     if let Some(need) = needs.get_mut(at) {
         need.note(made);
     }
+}
+
+/// Notes that connections come through an end.
+pub(crate) fn add_connection(room: &mut Room, needs: &mut Vec<Need>, ends: Ends) {
+    let _ = place(room, needs, ends);
 }

@@ -4,7 +4,8 @@ use crate::demands::demands_of;
 use crate::drafts::Draft;
 use crate::entrances::{Entrances, entry_of, program_of, state_behind};
 use crate::handles::Handles;
-use crate::learning::{LearnFault, add_counts, learn_program, learnt_of, text_of, tree_of};
+use crate::learning::{LearnFault, add_counts, learn_program, learnt_of, tree_of};
+use crate::merging::with_names_merged;
 use crate::plan_words::Words;
 use crate::policies::{Account, Policy};
 use crate::remade::in_order;
@@ -36,7 +37,7 @@ struct Start {
 }
 
 /// The call behind which the mode is to be entered.
-fn start_of(room: &Room, records: &[Vec<Entry>], line: u32) -> Result<Start, LearnFault> {
+fn start_of(room: &mut Room, records: &[Vec<Entry>], line: u32) -> Result<Start, LearnFault> {
     let Some(entries) = records.first() else {
         return Err(LearnFault::Nothing);
     };
@@ -46,13 +47,13 @@ fn start_of(room: &Room, records: &[Vec<Entry>], line: u32) -> Result<Start, Lea
     let Some(entry) = entries.get(at) else {
         return Err(LearnFault::Line);
     };
-    match program_of(room, entries, entry.process)? {
+    match program_of(room, entries, entry.process) {
         Some(program) => Ok(Start {
             process: entry.process,
             entry: at,
             program,
         }),
-        None => Err(LearnFault::Line),
+        None => Err(LearnFault::Line.unless_short(room)),
     }
 }
 
@@ -138,18 +139,26 @@ fn planned_of(
         Some(own) => room.copy(&own.name),
         None => room.list(),
     };
-    let front = text_of(room, page)?;
-    let back = text_of(room, rest)?;
+    let front = room.bytes(page);
+    let back = room.bytes(rest);
+    if room.is_short() {
+        return Err(LearnFault::Memory);
+    }
     Ok(Planned { front, name, back })
 }
 
-/// The plan of records whose entries are in order.
-fn plan_ordered(room: &mut Room, records: &[Vec<Entry>], line: u32) -> Result<Planned, LearnFault> {
+/// The plan of records whose entries are in order, and are changed as is told.
+fn plan_ordered(
+    room: &mut Room,
+    records: &[Vec<Entry>],
+    line: u32,
+    told: &Page,
+) -> Result<Planned, LearnFault> {
     let start = start_of(room, records, line)?;
     let mut tree = tree_of(room, records, None);
-    let learnt = learn_program(room, &mut tree, records, Level::LastCall, start.program)?;
+    let learnt = learn_program(room, &mut tree, records, Level::LastCall, start.program);
     let Some((learning, _)) = learnt else {
-        return Err(LearnFault::Nothing);
+        return Err(LearnFault::Nothing.unless_short(room));
     };
     let all = entrances_of(room, records, &learning, start);
     let accounts = accounts_of(room, &tree, records, all);
@@ -158,6 +167,7 @@ fn plan_ordered(room: &mut Room, records: &[Vec<Entry>], line: u32) -> Result<Pl
     let learnt = learnt_of(room, &remade, Some(&policy))?;
     let mut page = Page::new(room.alloc());
     add_counts(&mut page, records);
+    page.page(told);
     learnt.add_head(&mut page);
     let words = Words {
         tree: &tree,
@@ -170,7 +180,8 @@ fn plan_ordered(room: &mut Room, records: &[Vec<Entry>], line: u32) -> Result<Pl
 }
 
 /// The task that recorded runs of a program show, with the mode behind a line of the first one, with the directories, limits and grants that
-/// this takes; in front of it what that is, in words. Nothing is claimed of it: whether it is sandboxed is to be asked. (own)
+/// this takes; in front of it what that is, in words. Where a program would have more than 256 instructions, names of one directory with
+/// which the same is done are one. Nothing is claimed of it: whether it is sandboxed is to be asked. (own)
 pub fn plan(alloc: Global, records: &[Vec<Entry>], line: u32) -> Result<Planned, LearnFault> {
     let mut room = Room::new(alloc);
     let mut ordered = room.list();
@@ -178,5 +189,11 @@ pub fn plan(alloc: Global, records: &[Vec<Entry>], line: u32) -> Result<Planned,
         let copies = in_order(&mut room, entries);
         room.push(&mut ordered, copies);
     }
-    plan_ordered(&mut room, &ordered, line)
+    let mut told = Page::new(alloc);
+    match plan_ordered(&mut room, &ordered, line, &told) {
+        Err(LearnFault::Points) => {}
+        planned => return planned,
+    }
+    let merged = with_names_merged(&mut room, &ordered, &mut told);
+    plan_ordered(&mut room, &merged, line, &told)
 }

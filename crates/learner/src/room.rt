@@ -1,5 +1,6 @@
 //! Where the parts of a task are made.
 
+use records::{Entry, first_processes};
 use std::alloc::{AllocError, Global};
 use texts::{Page, Say};
 
@@ -62,6 +63,17 @@ impl Room {
     fn made<T>(&mut self, made: Result<Vec<T>, AllocError>) -> Vec<T> {
         match made {
             Ok(list) => list,
+            Err(_) => {
+                self.is_short = true;
+                Vec::new(self.alloc)
+            }
+        }
+    }
+
+    /// The first processes of a record.
+    pub(crate) fn processes(&mut self, entries: &[Entry]) -> Vec<u32> {
+        match first_processes(self.alloc, entries) {
+            Ok(processes) => processes,
             Err(_) => {
                 self.is_short = true;
                 Vec::new(self.alloc)

@@ -6,7 +6,7 @@ use crate::calls::{
     answer_of, end_of, makes_descriptor, number_at, path_at, path_place, place_of, second_end,
 };
 use crate::evidence::place_in;
-use crate::needs::{Need, add_need};
+use crate::needs::{Ends, Need, add_connection, add_need};
 use crate::room::Room;
 use crate::tables::{Holding, Table};
 use crate::trees::Tree;
@@ -146,6 +146,18 @@ impl Running {
         self.take(room, answer, first) && self.take(room, second, other)
     }
 
+    /// What a descriptor is of that comes by a message: of a connection, if it is an end that comes from the world.
+    fn received(&self, room: &mut Room, tree: &Tree, made: &MadeCall, answer: u32) -> Holding {
+        let through = number_at(made, 0).and_then(|number| self.table.of(number));
+        match (through.map(|held| &held.holding), end_of(made, answer)) {
+            (Some(Holding::World { first }), Some(end)) if end.pair > 0 => Holding::Connection {
+                first: *first,
+                pair: end.pair,
+            },
+            _ => holding_of(room, tree, made, answer),
+        }
+    }
+
     /// Takes a copy of a descriptor. Whether there is a number for it is told.
     fn take_copy(&mut self, room: &mut Room, real: u32, answer: u32) -> bool {
         match self.table.lowest_free() {
@@ -168,8 +180,12 @@ impl Running {
     ) -> bool {
         let given = number_at(made, 0).unwrap_or(answer);
         match made.call {
-            Call::Open | Call::Openat | Call::Recvfd => {
+            Call::Open | Call::Openat => {
                 let holding = holding_of(room, tree, made, answer);
+                return self.take(room, answer, holding);
+            }
+            Call::Recvfd => {
+                let holding = self.received(room, tree, made, answer);
                 return self.take(room, answer, holding);
             }
             Call::Dup => return self.take_copy(room, given, answer),
@@ -286,9 +302,43 @@ impl Learning {
 
     /// Notes what a call asks of the world.
     fn note_need(&mut self, room: &mut Room, course: &Course<'_>, table: &Table, made: &MadeCall) {
+        let program = course.program;
         let held = number_at(made, 0).and_then(|number| table.of(number));
-        if let Some(Holding::World { first }) = held.map(|held| &held.holding) {
-            add_need(room, &mut self.needs, course.program, *first, made);
+        let ends = match held.map(|held| &held.holding) {
+            Some(Holding::World { first }) => Ends::Own {
+                program,
+                first: *first,
+            },
+            Some(Holding::Connection { first, .. }) => Ends::Connections {
+                program,
+                first: *first,
+            },
+            _ => return,
+        };
+        add_need(room, &mut self.needs, ends, made);
+    }
+
+    /// Notes that a connection came, if a call gave one.
+    fn note_connection(
+        &mut self,
+        room: &mut Room,
+        course: &Course<'_>,
+        table: &Table,
+        made: &MadeCall,
+        answer: u32,
+    ) {
+        if made.call != Call::Recvfd {
+            return;
+        }
+        if let Some(Holding::Connection { first, .. }) = table
+            .of(answer)
+            .map(|held| &held.holding)
+        {
+            let ends = Ends::Connections {
+                program: course.program,
+                first: *first,
+            };
+            add_connection(room, &mut self.needs, ends);
         }
     }
 
@@ -319,6 +369,7 @@ impl Learning {
                 if !running.go_on(room, course.tree, made, &step.text, answer) {
                     self.is_over = true;
                 }
+                self.note_connection(room, course, &running.table, made, answer);
                 if made.call == Call::Fork {
                     self.fork(room, course, running, &step, answer);
                 }

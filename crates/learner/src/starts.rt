@@ -34,7 +34,7 @@ fn is_of_file(made: &MadeCall) -> bool {
 }
 
 /// What a descriptor is of that a call names.
-fn holding_of(room: &mut Room, tree: &Tree, made: &MadeCall, number: u32, short: u8) -> Holding {
+fn first_holding(room: &mut Room, tree: &Tree, made: &MadeCall, number: u32, short: u8) -> Holding {
     if let Some(place) = place_of(made, number) {
         if is_writable(place) {
             return Holding::Node(tree.resolve(room, b"/", place));
@@ -65,7 +65,7 @@ impl Beginning {
             return;
         };
         if usize::from(short) < MAX_DESCRIPTORS && !self.is_known(number) {
-            let holding = holding_of(room, tree, made, number, short);
+            let holding = first_holding(room, tree, made, number, short);
             self.table.put(room, short, number, holding);
         }
     }
@@ -102,7 +102,7 @@ impl Beginning {
             room.push(&mut self.closed, number);
         }
         if is_of_file(made) && number < STANDARD && !self.closed.contains(&number) {
-            let holding = holding_of(room, tree, made, number, number as u8);
+            let holding = first_holding(room, tree, made, number, number as u8);
             self.table.set(number, holding);
         }
     }

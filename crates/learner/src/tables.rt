@@ -15,6 +15,8 @@ pub(crate) enum Holding {
     World { first: u8 },
     /// An end of a pair, and the state of the program in which that was made; 0 of one that was there before.
     End { pair: u32, side: Side, made: usize },
+    /// An end of a connection, a pair whose other side the world has. It came through an end with which the process began, told by its number.
+    Connection { first: u8, pair: u32 },
 }
 
 /// A descriptor of a process.
@@ -45,6 +47,18 @@ impl Holding {
                 side: *side,
                 made: *made,
             },
+            Holding::Connection { first, pair } => Holding::Connection {
+                first: *first,
+                pair: *pair,
+            },
+        }
+    }
+
+    /// The pair that it is an end of, if it is one of a pair that wasn't there at the start.
+    fn pair(&self) -> Option<u32> {
+        match self {
+            Holding::End { pair, .. } | Holding::Connection { pair, .. } => Some(*pair),
+            Holding::Node(_) | Holding::World { .. } => None,
         }
     }
 }
@@ -191,12 +205,8 @@ impl Table {
     /// The least number at which an end of a pair stands.
     fn first_of(&self, pair: u32) -> u8 {
         for number in 0..MAX_DESCRIPTORS as u8 {
-            if let Some(held) = self.at(number) {
-                if let Holding::End { pair: own, .. } = held.holding {
-                    if own == pair {
-                        return number;
-                    }
-                }
+            if self.at(number).and_then(|held| held.holding.pair()) == Some(pair) {
+                return number;
             }
         }
         0
@@ -213,6 +223,9 @@ impl Table {
                     Side::B => "b",
                 };
                 say!(page; "pair ", self.first_of(*pair), " ", side, " of ", *made);
+            }
+            Holding::Connection { first, pair } => {
+                say!(page; "connection ", self.first_of(*pair), " of ", *first);
             }
         }
     }
@@ -234,7 +247,8 @@ impl Table {
             if let Some(held) = self.at(number) {
                 let kind = match held.holding {
                     Holding::Node(_) => " node\n",
-                    Holding::World { .. } | Holding::End { .. } => " end\n",
+                    Holding::World { .. } | Holding::End { .. } | Holding::Connection { .. } =>
+                        " end\n",
                 };
                 say!(page; number, kind);
             }

@@ -267,11 +267,21 @@ impl Tree {
         false
     }
 
+    /// Notes that what stood above a place as a file all along is a directory.
+    fn widen_above(&mut self, place: &[u8]) {
+        for at in 1..place.len() {
+            if place[at] == b'/' && self.at(&place[..at]) == Some(Presence::File) {
+                self.widen(&place[..at]);
+            }
+        }
+    }
+
     /// Notes that nothing stands at a place.
     pub(crate) fn absent(&mut self, room: &mut Room, place: &[u8]) {
         if self.is_cut_off(place) {
             return;
         }
+        self.widen_above(place);
         match self.at(place) {
             None => self.add(room, place, Presence::Absent, Presence::Absent),
             Some(Presence::Absent) => {}

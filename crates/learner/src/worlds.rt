@@ -6,11 +6,12 @@ use crate::room::Room;
 use crate::trees::{Change, Deed, Tree};
 use texts::{Page, Say, parts_of, say};
 
-/// An end that the world has, by its number there, and what is asked of it.
+/// An end that the world has, by its number there, what is asked of it, and what of the connections that go through it.
 #[derive(Clone, Copy)]
 pub(crate) struct WorldEnd {
     pub number: usize,
     pub need: Option<Need>,
+    pub connections: Option<Need>,
 }
 
 /// Adds an act, from its label on.
@@ -29,8 +30,78 @@ fn add_need(page: &mut Page, acts: &mut usize, number: usize, need: &Need) {
     if need.takes() {
         add_act(page, acts, parts_of!("read ", number, " else next\n"));
     }
-    if need.ends {
+    if need.closes {
         add_act(page, acts, parts_of!("close ", number, " else next\n"));
+    }
+}
+
+/// Adds that a connection is made: one end of a new pair is sent, and a process of its own goes on with the other one, which has the lowest
+/// free number.
+fn add_connecting(page: &mut Page, acts: &mut usize, listener: usize, number: usize) {
+    let other = number.saturating_add(1);
+    add_act(
+        page,
+        acts,
+        parts_of!(
+            parts_of!(
+                "socketpair else next\n        sendfd ",
+                listener,
+                " ",
+                other,
+                " 65 else end\n"
+            ),
+            parts_of!(
+                "        close ",
+                other,
+                " else end\n        fork else end\n"
+            ),
+            parts_of!(
+                "        jeq r0 0 talk",
+                listener,
+                "\n        close ",
+                number,
+                " else end\n"
+            )
+        ),
+    );
+}
+
+/// Adds a call of a process that has a connection.
+fn add_talking<S: Say>(page: &mut Page, name: &str, listener: usize, said: S) {
+    say!(page; name, listener, ":  ");
+    said.say(page);
+    say!(page; " else talk", listener, "\n        jmp talk", listener, "\n");
+}
+
+/// Adds what a process does that has a connection, by what is asked of it: in the end it halts.
+fn add_talk(page: &mut Page, listener: usize, number: usize, need: &Need) {
+    say!(page; "talk", listener, ":  in r6\n");
+    if need.gives {
+        say!(page; "        jeq r6 0 give", listener, "\n");
+    }
+    if need.takes() {
+        say!(page; "        jeq r6 1 take", listener, "\n");
+    }
+    page.bytes(b"        halt\n");
+    if need.gives {
+        add_talking(page, "give", listener, parts_of!("write ", number, " 65"));
+    }
+    if need.takes() {
+        add_talking(page, "take", listener, parts_of!("read ", number));
+    }
+}
+
+/// Adds what the processes do that have connections, which come through these ends and have this number.
+fn add_talks(page: &mut Page, ends: &[WorldEnd], number: usize) {
+    let mut is_any = false;
+    for end in ends {
+        if let Some(need) = &end.connections {
+            add_talk(page, end.number, number, need);
+            is_any = true;
+        }
+    }
+    if is_any {
+        page.bytes(b"end:    halt\n");
     }
 }
 
@@ -145,6 +216,12 @@ pub(crate) fn world_code(
             add_need(&mut page, &mut acts, end.number, need);
         }
     }
+    let lowest_free = footing.first.saturating_add(footing.directories.len());
+    for end in ends {
+        if end.connections.is_some() {
+            add_connecting(&mut page, &mut acts, end.number, lowest_free);
+        }
+    }
     for change in &tree.changes {
         add_change(room, &mut page, &mut acts, tree, footing, change);
     }
@@ -157,5 +234,6 @@ pub(crate) fn world_code(
         whole.bytes(b"        jmp next\n");
     }
     whole.page(&page);
+    add_talks(&mut whole, ends, lowest_free);
     room.bytes(whole)
 }

@@ -1,5 +1,6 @@
 -- A quoted text is read as its bytes.
-use Rattle.std.proofs.Common.{◌≡◌, ℕ, ◌/◌, ◌%◌, ◌^◌, ◌<◌, Bool, true, false, not, cond, List, [], ◌∷◌, ◌++◌, refl, ap, sym, ◌∙◌, append_assoc, append-nil, ltb-true, arith}
+use Rattle.std.proofs.Common.{◌≡◌, ℕ, ◌/◌, ◌%◌, ◌^◌, ◌<◌, Bool, true, false, not, cond}
+use Rattle.std.proofs.Common.{List, [], ◌∷◌, ◌++◌, refl, ap, sym, ◌∙◌, append_assoc, append-nil, ltb-true, arith}
 use Rattle.std.proofs.Common.{zero, suc, ◌+◌, length, drop, get_or, add-one, drop-cons}
 use Rattle.std.specs.Prelude.{◌==◌, ◌&&◌, ◌≤◌, nat_le, nat_lt, Option, Some, None}
 use Rattle.std.specs.List.{flat_map}
@@ -10,7 +11,8 @@ use Rattle.records.specs.Calls.{is_text}
 use Rattle.records.specs.declared.quoting.Progress.{Progress as ProgressCode}
 use Rattle.records.specs.declared.quoting.Progress.TheVariants as code
 use Rattle.records.specs.QuotedViews.{progress_seen}
-use Rattle.records.specs.Quoted.{QuoteEffect, QuoteProgress, Within, Escaped, Halfway, Behind, Leads, Gives, Stops, byte_text, effect, given_byte, going, if_closed, is_plain, quoted, unquoted, unquoted_from}
+use Rattle.records.specs.Quoted.{QuoteEffect, QuoteProgress, Within, Escaped, Halfway, Behind, Leads, Gives, Stops}
+use Rattle.records.specs.Quoted.{byte_text, effect, given_byte, going, if_closed, is_plain, quoted, unquoted, unquoted_from}
 
 -- a plain byte gives itself
 plain-effect : (b : ℕ) → is_plain b ≡ true → effect Within b ≡ Gives b

@@ -55,8 +55,11 @@ pub(crate) fn first_of(text: &[u8]) -> Option<First<'_>> {
         return None;
     }
     let (note, behind) = behind.split_at(first_note_end(behind));
+    let Some(number) = number(digits) else {
+        return None;
+    };
     let mention = Mention {
-        number: number(digits)?,
+        number,
         note: inside(note),
     };
     Some(First { mention, behind })
@@ -64,7 +67,10 @@ pub(crate) fn first_of(text: &[u8]) -> Option<First<'_>> {
 
 /// The descriptor that an argument begins with.
 pub(crate) fn mention_of(argument: &[u8]) -> Option<Mention<'_>> {
-    Some(first_of(argument)?.mention)
+    match first_of(argument) {
+        Some(first) => Some(first.mention),
+        None => None,
+    }
 }
 
 /// The first descriptor of those in brackets, such as `[3</a>, 4]` or `{3,4}`, that a text begins with.
@@ -80,13 +86,17 @@ pub(crate) fn next_listed(behind: &[u8]) -> Option<First<'_>> {
     if let [b']' | b'}', ..] = behind {
         return None;
     }
-    let (_rest, next) = first_part(behind, b',');
-    first_of(without_spaces(next?))
+    match first_part(behind, b',') {
+        (_, Some(next)) => first_of(without_spaces(next)),
+        (_, None) => None,
+    }
 }
 
 /// The note of `AT_FDCWD`, which may be empty, if the argument is that.
 pub(crate) fn here_note(argument: &[u8]) -> Option<&[u8]> {
-    let behind = after(argument, b"AT_FDCWD")?;
+    let Some(behind) = after(argument, b"AT_FDCWD") else {
+        return None;
+    };
     let (note, _behind) = behind.split_at(first_note_end(behind));
     Some(inside(note))
 }
@@ -94,9 +104,8 @@ pub(crate) fn here_note(argument: &[u8]) -> Option<&[u8]> {
 /// What stands behind the first place at which a text has these bytes.
 pub(crate) fn behind<'t>(text: &'t [u8], bytes: &[u8]) -> Option<&'t [u8]> {
     for at in 0..text.len() {
-        let rest = after(&text[at..], bytes);
-        if rest.is_some() {
-            return rest;
+        if let Some(rest) = after(&text[at..], bytes) {
+            return Some(rest);
         }
     }
     None
@@ -160,7 +169,12 @@ pub(crate) fn is_device(note: &[u8]) -> bool {
 
 /// The number of a socket's end in a note such as `UNIX-STREAM:[42->43]`, if 32 bits hold it.
 pub(crate) fn socket_inode(note: &[u8]) -> Option<u32> {
-    let inode = behind(after(note, b"UNIX")?, b":[")?;
+    let Some(kind) = after(note, b"UNIX") else {
+        return None;
+    };
+    let Some(inode) = behind(kind, b":[") else {
+        return None;
+    };
     let (digits, _behind) = inode.split_at(digits_end(inode));
     number(digits)
 }

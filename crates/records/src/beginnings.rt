@@ -10,22 +10,30 @@ fn children(alloc: Global, entries: &[Entry]) -> Result<Vec<u32>, Memory> {
     for entry in entries {
         if let Event::Called(call) = &entry.event {
             if let (Call::Fork, Outcome::Success(child)) = (call.call, call.outcome) {
-                made.push(child)?;
+                if made.push(child).is_err() {
+                    return Err(Memory);
+                }
             }
         }
     }
     Ok(made)
 }
 
-/// The processes of a record that none of its calls makes, in the order in which they come.
-pub fn first_processes(alloc: Global, entries: &[Entry]) -> Result<Vec<u32>, Memory> {
-    let made = children(alloc, entries)?;
+/// The processes of the entries that are none of these, in the order in which they come.
+fn others(alloc: Global, entries: &[Entry], made: &[u32]) -> Result<Vec<u32>, Memory> {
     let mut first = Vec::new(alloc);
     for entry in entries {
         let is_counted = !matches!(entry.event, Event::Omitted(_));
-        if is_counted && !made.contains(&entry.process) && !first.contains(&entry.process) {
-            first.push(entry.process)?;
+        let is_known = made.contains(&entry.process) || first.contains(&entry.process);
+        if is_counted && !is_known && first.push(entry.process).is_err() {
+            return Err(Memory);
         }
     }
     Ok(first)
+}
+
+/// The processes of a record that none of its calls makes, in the order in which they come.
+pub fn first_processes(alloc: Global, entries: &[Entry]) -> Result<Vec<u32>, Memory> {
+    let made = children(alloc, entries)?;
+    others(alloc, entries, &made)
 }

@@ -64,14 +64,19 @@ fn add_duplicate_to(run: &mut Run, seen: &SeenCall<'_>, mention: Mention<'_>) {
     add_duplicate(run, seen, mention, seen.has(2, b"O_CLOEXEC"));
 }
 
-/// Closes the numbers from one to another that are known to be in use. Whether there are any is told.
-fn add_closes(run: &mut Run, seen: &SeenCall<'_>, first: u32, last: u32) -> bool {
+/// Closes the numbers from one to another that are known to be in use, now or where the process goes on as another program. Whether any is
+/// closed now is told.
+fn close_between(run: &mut Run, seen: &SeenCall<'_>, first: u32, last: u32, on_exec: bool) -> bool {
     let mut closes = false;
     for number in 0..MAX_FOLLOWED {
         let is_between = first <= number && number <= last;
         if is_between && run.known.process.table.get(number).is_some() {
-            add_silent_close(run, seen, number);
-            closes = true;
+            if on_exec {
+                run.known.process.table.set_closing(number, true);
+            } else {
+                add_silent_close(run, seen, number);
+                closes = true;
+            }
         }
     }
     closes
@@ -86,15 +91,8 @@ fn add_close_range(run: &mut Run, seen: &SeenCall<'_>, first: Mention<'_>) {
         Some(last) => last.number,
         None => u32::MAX,
     };
-    if seen.has(2, b"CLOSE_RANGE_CLOEXEC") {
-        for number in 0..MAX_FOLLOWED {
-            if first.number <= number && number <= last {
-                run.known.process.table.set_closing(number, true);
-            }
-        }
-        return run.omit(seen, Reason::Quiet);
-    }
-    if !add_closes(run, seen, first.number, last) {
+    let on_exec = seen.has(2, b"CLOSE_RANGE_CLOEXEC");
+    if !close_between(run, seen, first.number, last, on_exec) {
         run.omit(seen, Reason::Quiet);
     }
 }
@@ -137,6 +135,8 @@ enum Command {
     Closing,
     Nothing,
     Lock,
+    /// It isn't known.
+    Unknown,
 }
 
 /// The fcntl commands that are known.
@@ -159,21 +159,18 @@ const COMMANDS: [(&[u8], Command); 15] = [
 ];
 
 /// The first of these commands that an argument names.
-fn command_among(commands: &[(&[u8], Command)], argument: &[u8]) -> Option<Command> {
+fn command_among(commands: &[(&[u8], Command)], argument: &[u8]) -> Command {
     for (name, command) in commands {
         if has_word(argument, name) {
-            return Some(*command);
+            return *command;
         }
     }
-    None
+    Command::Unknown
 }
 
 /// An fcntl.
 fn add_fcntl(run: &mut Run, seen: &SeenCall<'_>, mention: Mention<'_>) {
-    let Some(command) = command_among(&COMMANDS, seen.argument(1)) else {
-        return run.omit(seen, Reason::Unknown);
-    };
-    match command {
+    match command_among(&COMMANDS, seen.argument(1)) {
         Command::Flags => add_flags(run, seen, mention),
         Command::NewFlags => add_new_flags(run, seen, mention),
         Command::Duplicate => add_duplicate(run, seen, mention, false),
@@ -181,6 +178,7 @@ fn add_fcntl(run: &mut Run, seen: &SeenCall<'_>, mention: Mention<'_>) {
         Command::Closing => set_closing(run, seen, mention, seen.has(2, b"FD_CLOEXEC")),
         Command::Nothing => run.omit(seen, Reason::Quiet),
         Command::Lock => run.want(seen, OtherRight::Flock, Some(mention)),
+        Command::Unknown => run.omit(seen, Reason::Unknown),
     }
 }
 

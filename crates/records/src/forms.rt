@@ -92,6 +92,8 @@ pub(crate) enum Form {
     Pair(Pairing),
     /// It makes a descriptor of the world.
     World,
+    /// It makes an end of a connection, which comes through the descriptor that is listened on.
+    Connection,
     Process(OnProcess),
     /// It maps a file, or memory.
     Map,
@@ -105,27 +107,59 @@ pub(crate) enum Form {
     LeftOut(Reason),
 }
 
-/// The calls that have nothing to do with files or descriptors.
-const QUIET: &[u8] =
-    b"brk mprotect munmap mremap madvise mincore msync mlock mlock2 munlock mlockall munlockall membarrier pkey_mprotect pkey_alloc pkey_free arch_prctl \
-    set_thread_area get_thread_area set_tid_address set_robust_list get_robust_list rseq futex futex_waitv rt_sigaction rt_sigprocmask rt_sigreturn \
-    rt_sigpending rt_sigsuspend rt_sigtimedwait rt_sigqueueinfo rt_tgsigqueueinfo sigaltstack sigreturn sigaction sigprocmask signal pause restart_syscall \
-    alarm setitimer getitimer timer_create timer_settime timer_gettime timer_delete timer_getoverrun nanosleep clock_nanosleep clock_gettime clock_getres \
-    clock_settime clock_adjtime adjtimex gettimeofday settimeofday time times getpid getppid gettid getpgrp getpgid setpgid getsid setsid getuid geteuid \
-    getgid getegid getresuid getresgid setuid setgid setreuid setregid setresuid setresgid setfsuid setfsgid getgroups setgroups capget capset prctl \
-    prlimit64 getrlimit setrlimit ugetrlimit getrusage getpriority setpriority nice ioprio_get ioprio_set sched_yield sched_getaffinity sched_setaffinity \
-    sched_getparam sched_setparam sched_getscheduler sched_setscheduler sched_get_priority_max sched_get_priority_min sched_getattr sched_setattr \
-    sched_rr_get_interval getrandom getcpu uname sysinfo umask personality getcwd tgkill tkill set_mempolicy get_mempolicy mbind seccomp timerfd_settime \
-    timerfd_gettime landlock_create_ruleset landlock_restrict_self fadvise64 readahead __sysctl __sysctlbyname sysarch issetugid sigfastblock thr_self \
-    thr_exit thr_kill rtprio_thread minherit _umtx_op";
+/// The calls of memory and of waiting for it, which have nothing to do with files or descriptors.
+const QUIET_MEMORY: &[u8] =
+    b"brk mprotect munmap mremap madvise mincore msync mlock mlock2 munlock mlockall munlockall membarrier pkey_mprotect pkey_alloc pkey_free \
+    arch_prctl set_thread_area get_thread_area set_tid_address set_robust_list get_robust_list rseq futex futex_waitv";
 
-/// The calls that work on a global name space, and are none of the calls here.
-const GLOBAL: &[u8] =
-    b"connect bind chmod chown lchown chown32 lchown32 symlink symlinkat link readlink mknod truncate truncate64 utime utimes statfs statfs64 \
-    setxattr lsetxattr getxattr lgetxattr listxattr llistxattr removexattr lremovexattr wait4 waitid waitpid kill pidfd_send_signal ptrace \
-    process_vm_readv process_vm_writev mount umount umount2 pivot_root unshare setns sethostname setdomainname reboot sync swapon swapoff syslog quotactl \
-    init_module finit_module delete_module acct shmget shmat shmdt shmctl semget semop semtimedop semctl msgget msgsnd msgrcv msgctl inotify_add_watch \
-    inotify_rm_watch mq_unlink add_key request_key keyctl name_to_handle_at vhangup";
+/// The calls of signals, likewise.
+const QUIET_SIGNALS: &[u8] =
+    b"rt_sigaction rt_sigprocmask rt_sigreturn rt_sigpending rt_sigsuspend rt_sigtimedwait rt_sigqueueinfo rt_tgsigqueueinfo sigaltstack sigreturn \
+    sigaction sigprocmask signal pause restart_syscall";
+
+/// Those of time.
+const QUIET_TIME: &[u8] =
+    b"alarm setitimer getitimer timer_create timer_settime timer_gettime timer_delete timer_getoverrun nanosleep clock_nanosleep clock_gettime \
+    clock_getres clock_settime clock_adjtime adjtimex gettimeofday settimeofday time times";
+
+/// Those of who a process is.
+const QUIET_IDENTITY: &[u8] =
+    b"getpid getppid gettid getpgrp getpgid setpgid getsid setsid getuid geteuid getgid getegid getresuid getresgid setuid setgid setreuid \
+    setregid setresuid setresgid setfsuid setfsgid getgroups setgroups capget capset prctl";
+
+/// Those of limits and of when a process runs.
+const QUIET_SCHEDULING: &[u8] =
+    b"prlimit64 getrlimit setrlimit ugetrlimit getrusage getpriority setpriority nice ioprio_get ioprio_set sched_yield sched_getaffinity \
+    sched_setaffinity sched_getparam sched_setparam sched_getscheduler sched_setscheduler sched_get_priority_max sched_get_priority_min \
+    sched_getattr sched_setattr sched_rr_get_interval";
+
+/// The others that have nothing to do with files or descriptors.
+const QUIET_OTHERS: &[u8] =
+    b"getrandom getcpu uname sysinfo umask personality getcwd tgkill tkill set_mempolicy get_mempolicy mbind seccomp timerfd_settime \
+    timerfd_gettime landlock_create_ruleset landlock_restrict_self fadvise64 readahead __sysctl __sysctlbyname sysarch issetugid sigfastblock \
+    thr_self thr_exit thr_kill rtprio_thread minherit _umtx_op";
+
+/// The calls that work on a name from the root, and are none of the calls here.
+const GLOBAL_NAMES: &[u8] =
+    b"connect bind chmod chown lchown chown32 lchown32 symlink symlinkat link readlink mknod truncate truncate64 utime utimes statfs statfs64";
+
+/// Those of the attributes of what stands at such a name.
+const GLOBAL_ATTRIBUTES: &[u8] =
+    b"setxattr lsetxattr getxattr lgetxattr listxattr llistxattr removexattr lremovexattr";
+
+/// The calls that work on the numbers of processes, and are none of the calls here.
+const GLOBAL_PROCESSES: &[u8] =
+    b"wait4 waitid waitpid kill pidfd_send_signal ptrace process_vm_readv process_vm_writev";
+
+/// Those that work on the whole system.
+const GLOBAL_SYSTEM: &[u8] =
+    b"mount umount umount2 pivot_root unshare setns sethostname setdomainname reboot sync swapon swapoff syslog quotactl init_module finit_module \
+    delete_module acct";
+
+/// Those that work on other global name spaces.
+const GLOBAL_OTHERS: &[u8] =
+    b"shmget shmat shmdt shmctl semget semop semtimedop semctl msgget msgsnd msgrcv msgctl inotify_add_watch inotify_rm_watch mq_unlink add_key \
+    request_key keyctl name_to_handle_at vhangup";
 
 /// The calls that are known, and have no counterpart.
 const UNKNOWN: &[u8] =
@@ -134,7 +168,7 @@ const UNKNOWN: &[u8] =
     cap_fcntls_get cap_ioctls_limit cap_ioctls_get";
 
 /// What calls are, by their names.
-const FORMS: [(&[u8], Form); 72] = [
+const FORMS: [(&[u8], Form); 82] = [
     (b"open", Form::Opens(Opening::Plain)),
     (b"openat openat2", Form::Opens(Opening::At)),
     (b"creat", Form::Opens(Opening::Creat)),
@@ -191,9 +225,10 @@ const FORMS: [(&[u8], Form); 72] = [
     (b"socketpair", Form::Pair(Pairing::Sockets)),
     (b"pipe pipe2", Form::Pair(Pairing::Pipe)),
     (
-        b"socket accept accept4 epoll_create epoll_create1 eventfd eventfd2 timerfd_create inotify_init inotify_init1 memfd_create signalfd signalfd4 kqueue pidfd_open userfaultfd",
+        b"socket epoll_create epoll_create1 eventfd eventfd2 timerfd_create inotify_init inotify_init1 memfd_create signalfd signalfd4 kqueue pidfd_open userfaultfd",
         Form::World,
     ),
+    (b"accept accept4", Form::Connection),
     (
         b"fork vfork clone clone3 pdfork",
         Form::Process(OnProcess::Fork),
@@ -240,8 +275,17 @@ const FORMS: [(&[u8], Form); 72] = [
     (b"mknodat", Form::WantsAt(OtherRight::Mknodat)),
     (b"linkat", Form::WantsAt(OtherRight::Linkat)),
     (b"readlinkat", Form::WantsAt(OtherRight::Lookup)),
-    (QUIET, Form::LeftOut(Reason::Quiet)),
-    (GLOBAL, Form::LeftOut(Reason::Global)),
+    (QUIET_MEMORY, Form::LeftOut(Reason::Quiet)),
+    (QUIET_SIGNALS, Form::LeftOut(Reason::Quiet)),
+    (QUIET_TIME, Form::LeftOut(Reason::Quiet)),
+    (QUIET_IDENTITY, Form::LeftOut(Reason::Quiet)),
+    (QUIET_SCHEDULING, Form::LeftOut(Reason::Quiet)),
+    (QUIET_OTHERS, Form::LeftOut(Reason::Quiet)),
+    (GLOBAL_NAMES, Form::LeftOut(Reason::Global)),
+    (GLOBAL_ATTRIBUTES, Form::LeftOut(Reason::Global)),
+    (GLOBAL_PROCESSES, Form::LeftOut(Reason::Global)),
+    (GLOBAL_SYSTEM, Form::LeftOut(Reason::Global)),
+    (GLOBAL_OTHERS, Form::LeftOut(Reason::Global)),
     (UNKNOWN, Form::LeftOut(Reason::Unknown)),
 ];
 

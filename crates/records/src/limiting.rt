@@ -43,7 +43,9 @@ fn add_name(page: &mut Page, word: &[u8], beginning: &[u8]) {
 
 /// The names in braces that an argument lists, as `{ CAP_READ,CAP_SEEK }`, without this beginning; nothing of an argument without braces.
 fn listed(alloc: Global, argument: &[u8], beginning: &[u8]) -> Option<Page> {
-    let mut rest = between(without_spaces(argument), b"{", b"}")?;
+    let Some(mut rest) = between(without_spaces(argument), b"{", b"}") else {
+        return None;
+    };
     let mut page = Page::new(alloc);
     for _ in 0..MOST_NAMES {
         let (word, behind) = first_part(rest, b',');

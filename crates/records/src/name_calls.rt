@@ -26,14 +26,6 @@ fn is_of_itself(seen: &SeenCall<'_>) -> bool {
     is_unnamed && may_be_unnamed && here_note(seen.argument(0)).is_none()
 }
 
-/// What the node of a descriptor is.
-fn add_own_status(run: &mut Run, seen: &SeenCall<'_>) {
-    match seen.mention(0) {
-        Some(mention) => run.add_plain(seen, Call::Fstat, mention),
-        None => run.omit(seen, Reason::Unknown),
-    }
-}
-
 /// What a node is.
 fn add_status(run: &mut Run, seen: &SeenCall<'_>, target: &Target<'_>) {
     match target.base {
@@ -178,7 +170,10 @@ fn take_named(run: &mut Run, seen: &SeenCall<'_>, form: OnName, naming: Naming) 
 /// Takes a call that works by a name.
 pub(crate) fn take(run: &mut Run, seen: &SeenCall<'_>, form: OnName) {
     match form {
-        OnName::StatusAt if is_of_itself(seen) => add_own_status(run, seen),
+        OnName::StatusAt if is_of_itself(seen) => match seen.mention(0) {
+            Some(mention) => run.add_plain(seen, Call::Fstat, mention),
+            None => run.omit(seen, Reason::Unknown),
+        },
         OnName::RenameAt if does_more(seen) => run.omit(seen, Reason::Unknown),
         OnName::RenameAt => take_rename(run, seen, AT, NEW_AT),
         OnName::Rename => take_rename(run, seen, HERE, NEW_HERE),

@@ -8,37 +8,19 @@ use crate::known::About;
 use crate::real_calls::Given;
 use crate::runs::Run;
 use crate::seen_calls::SeenCall;
-use crate::targets::{AT, HERE, Naming, Target};
+use crate::targets::{AT, HERE, Target};
 use rights::{Call, OpenFlags};
 
-impl Opening {
-    /// Which arguments name what is opened.
-    fn naming(self) -> Naming {
-        match self {
-            Opening::At => AT,
-            Opening::Plain | Opening::Creat => HERE,
-        }
-    }
-
-    /// Which argument has the flags.
-    fn flags(self) -> usize {
-        match self {
-            Opening::At => 2,
-            Opening::Plain | Opening::Creat => 1,
-        }
-    }
-}
-
-/// How the flags in an argument open a file, if that has a counterpart.
-fn flags_of(seen: &SeenCall<'_>, at: usize) -> Option<OpenFlags> {
-    if seen.has(at, b"O_TMPFILE") {
+/// How these flags open a file, if that has a counterpart.
+fn flags_of(flags: &[u8]) -> Option<OpenFlags> {
+    if has_word(flags, b"O_TMPFILE") {
         return None;
     }
-    let both = seen.has(at, b"O_RDWR");
-    let write = both || seen.has(at, b"O_WRONLY");
-    let append = write && seen.has(at, b"O_APPEND");
-    let create = seen.has(at, b"O_CREAT");
-    let trunc = write && seen.has(at, b"O_TRUNC");
+    let both = has_word(flags, b"O_RDWR");
+    let write = both || has_word(flags, b"O_WRONLY");
+    let append = write && has_word(flags, b"O_APPEND");
+    let create = has_word(flags, b"O_CREAT");
+    let trunc = write && has_word(flags, b"O_TRUNC");
     OpenFlags::new(both || !write, write, append, create, trunc)
 }
 
@@ -99,14 +81,18 @@ fn add_open(
 
 /// Takes an open.
 pub(crate) fn take(run: &mut Run, seen: &SeenCall<'_>, opening: Opening) {
-    let at = opening.flags();
-    let target = run.known.target(seen, opening.naming());
-    hold(run, seen, &target, seen.has(at, b"O_CLOEXEC"));
+    let (naming, at) = match opening {
+        Opening::At => (AT, 2),
+        Opening::Plain | Opening::Creat => (HERE, 1),
+    };
+    let asked = seen.argument(at);
+    let target = run.known.target(seen, naming);
+    hold(run, seen, &target, has_word(asked, b"O_CLOEXEC"));
     let flags = match opening {
         Opening::Creat => OpenFlags::new(false, true, false, true, true),
-        Opening::Plain | Opening::At => flags_of(seen, at),
+        Opening::Plain | Opening::At => flags_of(asked),
     };
-    let outcome = if is_asked_more(&ASKED_MORE, seen.argument(at), seen.error) {
+    let outcome = if is_asked_more(&ASKED_MORE, asked, seen.error) {
         None
     } else {
         seen.outcome

@@ -6,6 +6,7 @@ ghost use Rattle.records.specs.Calls.{is_call_name};
 /// A right that a call wants of a descriptor. (rights(4))
 #[derive(Clone, Copy)]
 pub(crate) enum OtherRight {
+    Accept,
     Read,
     Event,
     Fchdir,
@@ -71,6 +72,7 @@ impl OtherRight {
         ensures { is_call_name result.now ≡ true }
     {
         match self {
+            OtherRight::Accept => "ACCEPT",
             OtherRight::Read => "READ",
             OtherRight::Event => "EVENT",
             OtherRight::Fchdir => "FCHDIR",

@@ -5,12 +5,15 @@ use crate::entries::{Outcome, Reason};
 use crate::forms::Pairing;
 use crate::held::{Kept, WORLD};
 use crate::known::About;
+use crate::other_rights::OtherRight;
 use crate::runs::Run;
 use crate::seen_calls::SeenCall;
 use rights::{Call, Errno, Side};
 
-/// Which argument has the flags of a pair.
+/// Which argument has the flags of a pair, and which those of a connection.
 const FLAGS: usize = 1;
+
+const CONNECTION_FLAGS: usize = 3;
 
 impl Pairing {
     /// Which argument has both ends.
@@ -86,6 +89,38 @@ pub(crate) fn take_world(run: &mut Run, seen: &SeenCall<'_>) {
         }
         Some(Outcome::Failure(Errno::EMFILE | Errno::ENFILE)) => {
             add_world(run, seen, world, None)
+        }
+        _ => run.omit(seen, Reason::Unknown),
+    }
+}
+
+/// Makes the descriptor known that is listened on: of the world, where nothing else is known.
+fn listen_on(run: &mut Run, listener: Mention<'_>) {
+    if matches!(run.known.kept_of(listener), Kept::Unknown) {
+        run.known.hold(listener.number, WORLD, false);
+    }
+}
+
+/// A connection: an end of a new pair, whose other end the world has.
+fn add_connection(run: &mut Run, seen: &SeenCall<'_>, listener: Mention<'_>, made: Mention<'_>) {
+    listen_on(run, listener);
+    let pair = run.known.new_pair();
+    let closes_on_exec = closes_on_exec(seen.text);
+    hold_end(run, made, Kept::End(pair, Side::A), closes_on_exec);
+    run.add_on(seen, Call::Recvfd, listener, Some(made), seen.outcome);
+    if seen.has(CONNECTION_FLAGS, b"SOCK_NONBLOCK") {
+        add_nonblock(run, seen, made);
+    }
+    run.want(seen, OtherRight::Accept, Some(listener));
+}
+
+/// Takes a call that makes a connection, which comes through the descriptor that is listened on.
+pub(crate) fn take_connection(run: &mut Run, seen: &SeenCall<'_>) {
+    match (seen.mention(0), seen.made, seen.outcome) {
+        (Some(listener), Some(made), _) => add_connection(run, seen, listener, made),
+        (Some(listener), None, Some(Outcome::Failure(Errno::EMFILE))) => {
+            listen_on(run, listener);
+            run.add_plain(seen, Call::Recvfd, listener);
         }
         _ => run.omit(seen, Reason::Unknown),
     }

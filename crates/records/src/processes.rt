@@ -76,11 +76,11 @@ impl Processes {
 
     /// The process of this thread, if it is known and goes on.
     pub(crate) fn find_going_on(&self, thread: u32) -> Option<usize> {
-        let index = self.find(thread)?;
-        if index < self.processes.len() && !self.processes[index].has_ended {
-            Some(index)
-        } else {
-            None
+        match self.find(thread) {
+            Some(index) if index < self.processes.len() && !self.processes[index].has_ended => {
+                Some(index)
+            }
+            _ => None,
         }
     }
 

@@ -71,54 +71,48 @@ impl<'t> Reader<'t> {
 
     /// The process of a fork, and whether it makes a thread: nothing where the fork has ended.
     fn forking(&self, fork: BegunFork) -> Option<(usize, bool)> {
-        let begun = self.begun.get(&fork.thread).copied()?;
-        if begun.line != fork.line {
-            return None;
+        match (
+            self.begun.get(&fork.thread),
+            self.processes.find(fork.thread),
+        ) {
+            (Some(begun), Some(process)) if begun.line == fork.line => {
+                Some((process, is_thread(begun.arguments)))
+            }
+            _ => None,
         }
-        let process = self.processes.find(fork.thread)?;
-        Some((process, is_thread(begun.arguments)))
     }
 
     /// The same of the fork that began last, of those that haven't ended and of which no child is known.
     fn last_fork(&mut self) -> Option<(usize, bool)> {
         for _ in 0..self.forks.len() {
-            let forking = self.forking(self.forks.last().copied()?);
-            if forking.is_some() {
-                return forking;
+            let Some(fork) = self.forks.last() else {
+                return None;
+            };
+            if let Some(forking) = self.forking(*fork) {
+                return Some(forking);
             }
             self.forks.pop();
         }
         None
     }
 
-    /// Takes the thread for a child of the fork that began last, if there is one.
-    fn take_for_child(&mut self, thread: u32) {
-        if let Some((parent, is_thread)) = self.last_fork() {
-            self.forks.pop();
-            self.processes.begin_child(parent, thread, is_thread);
-        }
-    }
-
-    /// The process of a thread that no call has made.
-    fn first_process(&mut self, thread: u32) -> usize {
-        match self.processes.find(0) {
-            Some(process) if self.unnamed == 0 => {
-                self.take_for_unnamed(process, thread);
-                process
-            }
-            _ => self.processes.begin(thread),
-        }
-    }
-
-    /// The process of a thread: of one that isn't known, the child of the fork that began last.
+    /// The process of a thread: of one that isn't known, the child of the fork that began last, or else that of the lines before which told
+    /// none, or a new one.
     fn process_of(&mut self, thread: u32) -> usize {
         if let Some(process) = self.known_process(thread) {
             return process;
         }
-        self.take_for_child(thread);
-        match self.processes.find(thread) {
-            Some(process) => process,
-            None => self.first_process(thread),
+        if let Some((parent, is_thread)) = self.last_fork() {
+            self.forks.pop();
+            self.processes.begin_child(parent, thread, is_thread);
+        }
+        match (self.processes.find(thread), self.processes.find(0)) {
+            (Some(process), _) => process,
+            (None, Some(process)) if self.unnamed == 0 => {
+                self.take_for_unnamed(process, thread);
+                process
+            }
+            _ => self.processes.begin(thread),
         }
     }
 
@@ -144,7 +138,9 @@ impl<'t> Reader<'t> {
 
     /// The process of a thread, if it is known: not of one that is the first of a process which has ended, while a fork may make another of its number.
     fn known_process(&mut self, thread: u32) -> Option<usize> {
-        let process = self.processes.find(thread)?;
+        let Some(process) = self.processes.find(thread) else {
+            return None;
+        };
         if self.processes.is_leader(process, thread) && self.last_fork().is_some() {
             return self.processes.find_going_on(thread);
         }
@@ -160,15 +156,6 @@ impl<'t> Reader<'t> {
             .exchange(process, &mut self.run.known.process);
     }
 
-    /// The arguments of a call in parts, if there is memory for them.
-    fn parts<'s>(&mut self, text: &'s [u8]) -> Option<Vec<&'s [u8]>> {
-        let parts = arguments(self.alloc, text).ok();
-        if parts.is_none() {
-            self.processes.is_short = true;
-        }
-        parts
-    }
-
     /// Takes a call of a thread that began at a line and ends at another.
     fn take_call(
         &mut self,
@@ -181,21 +168,13 @@ impl<'t> Reader<'t> {
     ) {
         let process = self.process_of(thread);
         let when = When::new(first, last, self.processes.number(process));
-        if let Some(parts) = self.parts(text) {
-            let seen = SeenCall::new(when, thread, name, text, &parts, returned);
-            self.take_seen(process, &seen);
-            self.take_made(process, name, text, returned);
+        match arguments(self.alloc, text) {
+            Ok(parts) => {
+                let seen = SeenCall::new(when, thread, name, text, &parts, returned);
+                self.take_seen(process, &seen);
+            }
+            Err(_) => self.processes.is_short = true,
         }
-    }
-
-    /// Makes known what a fork has made.
-    fn take_made(
-        &mut self,
-        process: usize,
-        name: CallName<'_>,
-        text: &[u8],
-        returned: CallResult<'_>,
-    ) {
         if let Answer::Number(child) = returned.answer {
             if is_fork(name.bytes) {
                 self.processes.begin_child(process, child, is_thread(text));
@@ -203,17 +182,12 @@ impl<'t> Reader<'t> {
         }
     }
 
-    /// Notes that a thread has begun a fork, if it has.
-    fn note_fork(&mut self, thread: u32, line: u32, name: &[u8]) {
-        if is_fork(name) && self.forks.push(BegunFork { thread, line }).is_err() {
-            self.processes.is_short = true;
-        }
-    }
-
     /// Takes the beginning of a call.
     fn begin(&mut self, thread: u32, line: u32, name: &'t [u8], arguments: &'t [u8]) {
         self.process_of(thread);
-        self.note_fork(thread, line, name);
+        if is_fork(name) && self.forks.push(BegunFork { thread, line }).is_err() {
+            self.processes.is_short = true;
+        }
         let begun = Begun {
             line,
             name,
@@ -231,12 +205,10 @@ impl<'t> Reader<'t> {
 
     /// The call of this name that a thread has begun, which it is at no longer.
     fn take_begun(&mut self, thread: u32, name: &[u8]) -> Option<Begun<'t>> {
-        let begun = self.begun.get(&thread).copied()?;
-        if begun.name != name {
-            return None;
+        match self.begun.get(&thread) {
+            Some(begun) if begun.name == name => self.begun.remove(&thread),
+            _ => None,
         }
-        self.begun.remove(&thread);
-        Some(begun)
     }
 
     /// Takes the end of a call.
@@ -249,21 +221,9 @@ impl<'t> Reader<'t> {
         returned: CallResult<'_>,
     ) {
         self.process_of(thread);
-        if let (Some(begun), Some(name)) = (self.take_begun(thread, name), CallName::new(name)) {
-            self.take_resumed(begun, line, thread, name, rest, returned);
-        }
-    }
-
-    /// Takes a call that has begun, and ends at this line.
-    fn take_resumed(
-        &mut self,
-        begun: Begun<'t>,
-        line: u32,
-        thread: u32,
-        name: CallName<'_>,
-        rest: &[u8],
-        returned: CallResult<'_>,
-    ) {
+        let (Some(begun), Some(name)) = (self.take_begun(thread, name), CallName::new(name)) else {
+            return;
+        };
         let mut text = Page::new(self.alloc);
         text.bytes(begun.arguments);
         text.bytes(rest);
@@ -287,8 +247,11 @@ impl<'t> Reader<'t> {
         self.run.omit_at(when, Reason::Unknown, name);
     }
 
-    /// Ends a process, where this is its first thread and it goes on.
-    fn end_process(&mut self, line: u32, thread: u32) {
+    /// Takes the end of a thread: of its process, where it is the first one and goes on.
+    fn end(&mut self, line: u32, thread: u32) {
+        if let Some(begun) = self.begun.remove(&thread) {
+            self.give_up(thread, begun);
+        }
         let Some(process) = self.processes.find(thread) else {
             return;
         };
@@ -298,32 +261,10 @@ impl<'t> Reader<'t> {
         }
     }
 
-    /// Takes the end of a thread: of its process, where it is the first one and goes on.
-    fn end(&mut self, line: u32, thread: u32) {
-        if let Some(begun) = self.begun.remove(&thread) {
-            self.give_up(thread, begun);
-        }
-        self.end_process(line, thread);
-    }
-
     /// Takes that a thread goes on with the call that another one began.
     fn supersede(&mut self, thread: u32, other: u32) {
         if let Some(begun) = self.begun.remove(&other) {
             self.go_on_with(thread, begun);
-        }
-    }
-
-    /// Takes a call that begins and ends in one line.
-    fn take_whole(
-        &mut self,
-        number: u32,
-        thread: u32,
-        name: &[u8],
-        arguments: &[u8],
-        returned: CallResult<'_>,
-    ) {
-        if let Some(name) = CallName::new(name) {
-            self.take_call(number, number, thread, name, arguments, returned);
         }
     }
 
@@ -335,7 +276,11 @@ impl<'t> Reader<'t> {
                 name,
                 arguments,
                 returned,
-            } => self.take_whole(number, thread, name, arguments, returned),
+            } => {
+                if let Some(name) = CallName::new(name) {
+                    self.take_call(number, number, thread, name, arguments, returned);
+                }
+            }
             Told::Unfinished { name, arguments } => self.begin(thread, number, name, arguments),
             Told::Resumed {
                 name,

@@ -29,17 +29,6 @@ pub(crate) struct SeenCall<'t> {
     pub outcome: Option<Outcome>,
 }
 
-/// The number that a call answers, where it succeeds, with what is noted of it.
-fn made_of(returned: CallResult<'_>) -> Option<Mention<'_>> {
-    match returned.answer {
-        Answer::Number(number) => Some(Mention {
-            number,
-            note: inside(returned.note.unwrap_or(b"")),
-        }),
-        _ => None,
-    }
-}
-
 /// The error of this name, if it has a counterpart here. Linux's EPERM has none: it is of owners.
 fn error_named(name: &[u8]) -> Option<Errno> {
     if name == b"EPERM".as_slice() {
@@ -55,7 +44,10 @@ fn error_named(name: &[u8]) -> Option<Errno> {
 fn outcome_of(answer: Answer<'_>, error: &[u8]) -> Option<Outcome> {
     match answer {
         Answer::Number(number) => Some(Outcome::Success(number)),
-        Answer::Failure => Some(Outcome::Failure(error_named(error)?)),
+        Answer::Failure => match error_named(error) {
+            Some(error) => Some(Outcome::Failure(error)),
+            None => None,
+        },
         Answer::Unknown | Answer::Other(_) => None,
     }
 }
@@ -70,6 +62,13 @@ impl<'t> SeenCall<'t> {
         arguments: &'t [&'t [u8]],
         returned: CallResult<'t>,
     ) -> SeenCall<'t> {
+        let made = match returned.answer {
+            Answer::Number(number) => Some(Mention {
+                number,
+                note: inside(returned.note.unwrap_or(b"")),
+            }),
+            _ => None,
+        };
         let error = returned.error.unwrap_or(b"");
         SeenCall {
             when,
@@ -77,7 +76,7 @@ impl<'t> SeenCall<'t> {
             name,
             text,
             arguments,
-            made: made_of(returned),
+            made,
             error,
             outcome: outcome_of(returned.answer, error),
         }
@@ -104,13 +103,18 @@ impl<'t> SeenCall<'t> {
 
     /// The bytes of a string that an argument is, if it was written whole.
     pub(crate) fn string(&self, alloc: Global, at: usize) -> Option<Page> {
-        let text = between(self.argument(at), b"\"", b"\"")?;
-        Some(unescaped(alloc, text))
+        match between(self.argument(at), b"\"", b"\"") {
+            Some(text) => Some(unescaped(alloc, text)),
+            None => None,
+        }
     }
 
     /// The number that it answers, where it succeeds and 32 bits hold it.
     pub(crate) fn success(&self) -> Option<u32> {
-        Some(self.made?.number)
+        match self.made {
+            Some(made) => Some(made.number),
+            None => None,
+        }
     }
 
     /// Whether it succeeds.

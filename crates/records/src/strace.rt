@@ -59,8 +59,11 @@ pub enum Told<'t> {
     Other,
 }
 
-/// How a process ended, by the words for it.
-fn ending(text: &[u8]) -> Option<Told<'_>> {
+/// What a line between `+++ ` and ` +++` tells: how a process ended.
+fn end_of(text: &[u8]) -> Option<Told<'_>> {
+    let Some(text) = between(text, b"+++ ", b" +++") else {
+        return None;
+    };
     if let Some(status) = number_after(text, b"exited with ") {
         return Some(Told::Exited(status));
     }
@@ -73,38 +76,33 @@ fn ending(text: &[u8]) -> Option<Told<'_>> {
     }
 }
 
-/// What a line between `+++ ` and ` +++` tells: how a process ended.
-fn end_of(text: &[u8]) -> Option<Told<'_>> {
-    ending(between(text, b"+++ ", b" +++")?)
-}
-
-/// What a line between `--- ` and ` ---` tells: a signal.
-fn signal_of(text: &[u8]) -> Option<Told<'_>> {
-    match between(text, b"--- ", b" ---") {
-        Some(signal) => Some(Told::Signal(signal)),
+/// The arguments up to the bracket that closes them, and the result behind it.
+fn ended(text: &[u8]) -> Option<(&[u8], CallResult<'_>)> {
+    let Some(at) = close_of(text) else {
+        return None;
+    };
+    match result_of(&text[at + 1..]) {
+        Some(returned) => Some((&text[..at], returned)),
         None => None,
     }
 }
 
-/// The arguments up to the bracket that closes them, and the result behind it.
-fn ended(text: &[u8]) -> Option<(&[u8], CallResult<'_>)> {
-    let at = close_of(text)?;
-    let returned = result_of(&text[at + 1..])?;
-    Some((&text[..at], returned))
-}
-
 /// What stands behind `<... `: the end of a call.
 fn resumed_of(text: &[u8]) -> Option<Told<'_>> {
-    let (name, rest) = first_part(text, b' ');
-    let (arguments, returned) = ended(after(rest?, b"resumed>")?)?;
-    if !is_name(name) {
+    let (name, Some(rest)) = first_part(text, b' ') else {
         return None;
+    };
+    let Some(rest) = after(rest, b"resumed>") else {
+        return None;
+    };
+    match ended(rest) {
+        Some((arguments, returned)) if is_name(name) => Some(Told::Resumed {
+            name,
+            arguments,
+            returned,
+        }),
+        _ => None,
     }
-    Some(Told::Resumed {
-        name,
-        arguments,
-        returned,
-    })
 }
 
 /// What a line tells that begins with `<`: the end of a call, or a remark that the end of a line before was cut off.
@@ -116,20 +114,17 @@ fn behind_others(text: &[u8]) -> Option<Told<'_>> {
     }
 }
 
-/// What stands before a remark of strace's own that a process was attached, where the remark ends the text.
-fn before_attached(text: &[u8]) -> Option<&[u8]> {
-    let rest = before(text, b" attached")?;
-    let at = place_of(rest, b"strace: Process ")?;
-    Some(&rest[..at])
-}
-
 /// The arguments of a call that goes on in another line. A remark that a process was attached may come into it: it goes on behind the remark.
 fn unfinished(text: &[u8]) -> Option<&[u8]> {
-    let arguments = before(text, b" <unfinished ...>");
-    if arguments.is_some() {
-        arguments
-    } else {
-        before_attached(text)
+    if let Some(arguments) = before(text, b" <unfinished ...>") {
+        return Some(arguments);
+    }
+    let Some(rest) = before(text, b" attached") else {
+        return None;
+    };
+    match place_of(rest, b"strace: Process ") {
+        Some(at) => Some(&rest[..at]),
+        None => None,
     }
 }
 
@@ -138,21 +133,21 @@ fn begun<'t>(name: &'t [u8], rest: &'t [u8]) -> Option<Told<'t>> {
     if let Some(arguments) = unfinished(rest) {
         return Some(Told::Unfinished { name, arguments });
     }
-    let (arguments, returned) = ended(rest)?;
-    Some(Told::Finished {
-        name,
-        arguments,
-        returned,
-    })
+    match ended(rest) {
+        Some((arguments, returned)) => Some(Told::Finished {
+            name,
+            arguments,
+            returned,
+        }),
+        None => None,
+    }
 }
 
 /// A call that begins on the line.
 fn call_of(text: &[u8]) -> Option<Told<'_>> {
-    let (name, rest) = first_part(text, b'(');
-    if is_name(name) {
-        begun(name, rest?)
-    } else {
-        None
+    match first_part(text, b'(') {
+        (name, Some(rest)) if is_name(name) => begun(name, rest),
+        _ => None,
     }
 }
 
@@ -161,7 +156,10 @@ fn understood(text: &[u8]) -> Option<Told<'_>> {
     match text {
         [] => Some(Told::Nothing),
         [b'+', ..] => end_of(text),
-        [b'-', ..] => signal_of(text),
+        [b'-', ..] => match between(text, b"--- ", b" ---") {
+            Some(signal) => Some(Told::Signal(signal)),
+            None => None,
+        },
         [b'<', ..] => behind_others(text),
         _ => match after(text, b"strace: ") {
             Some(remark) => Some(Told::Remark(remark)),

@@ -10,22 +10,19 @@ pub(crate) struct Header<'t> {
     pub rest: &'t [u8],
 }
 
-/// The word that tells the process, as `[pid 540] ` or `540 `, and what stands behind it.
-fn process_word(line: &[u8]) -> (&[u8], Option<&[u8]>) {
-    match after(line, b"[pid ") {
+/// The process, if a line tells it, as `[pid 540] ` or `540 `.
+fn process_of(line: &[u8]) -> Option<Header<'_>> {
+    let (word, behind) = match after(line, b"[pid ") {
         Some(rest) => first_part(without_spaces(rest), b']'),
         None => first_part(line, b' '),
+    };
+    match (number(word), behind) {
+        (Some(process), Some(rest)) => Some(Header {
+            process: Some(process),
+            rest: without_spaces(rest),
+        }),
+        _ => None,
     }
-}
-
-/// The process, if a line tells it.
-fn process_of(line: &[u8]) -> Option<Header<'_>> {
-    let (word, behind) = process_word(line);
-    let process = number(word)?;
-    Some(Header {
-        process: Some(process),
-        rest: without_spaces(behind?),
-    })
 }
 
 /// Whether a word is a time: digits with colons or points between them.

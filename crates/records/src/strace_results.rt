@@ -68,17 +68,13 @@ fn short_hex(digits: &[u8]) -> Option<u32> {
     read_hex(digits, digits.len())
 }
 
-/// The number that a word is, in decimal or hexadecimal digits, if 32 bits hold it.
-fn any_number(word: &[u8]) -> Option<u32> {
-    match after(word, b"0x") {
+/// The answer that a word tells which is a number, in decimal or hexadecimal digits, or as a number begins.
+fn number_answer(word: &[u8]) -> Answer<'_> {
+    let told = match after(word, b"0x") {
         Some(digits) => short_hex(digits),
         None => number(word),
-    }
-}
-
-/// The answer that a word tells which is a number, or as a number begins.
-fn number_answer(word: &[u8]) -> Answer<'_> {
-    match any_number(word) {
+    };
+    match told {
         Some(number) => Answer::Number(number),
         None => Answer::Other(word),
     }
@@ -105,9 +101,13 @@ fn error_of(text: &[u8]) -> Option<&[u8]> {
 
 /// The result that stands behind a call's arguments.
 pub(crate) fn result_of(text: &[u8]) -> Option<CallResult<'_>> {
-    let text = after(without_spaces(text), b"= ")?;
+    let Some(text) = after(without_spaces(text), b"= ") else {
+        return None;
+    };
     let (word, rest) = text.split_at(word_end(text));
-    let answer = answer_of(word)?;
+    let Some(answer) = answer_of(word) else {
+        return None;
+    };
     let (note, rest) = match rest {
         [b'<', ..] => {
             let (note, rest) = rest.split_at(note_end(rest));

@@ -23,7 +23,10 @@ pub(crate) fn before<'t>(text: &'t [u8], ending: &[u8]) -> Option<&'t [u8]>
 
 /// What stands between a beginning and an ending.
 pub(crate) fn between<'t>(text: &'t [u8], beginning: &[u8], ending: &[u8]) -> Option<&'t [u8]> {
-    before(after(text, beginning)?, ending)
+    match after(text, beginning) {
+        Some(rest) => before(rest, ending),
+        None => None,
+    }
 }
 
 /// The text without the spaces that it begins with.
@@ -42,7 +45,10 @@ pub(crate) fn number(word: &[u8]) -> Option<u32> {
 
 /// The number that stands behind a beginning and is all of the rest, if 32 bits hold it.
 pub(crate) fn number_after(text: &[u8], beginning: &[u8]) -> Option<u32> {
-    number(after(text, beginning)?)
+    match after(text, beginning) {
+        Some(digits) => number(digits),
+        None => None,
+    }
 }
 
 /// Where a text first has these bytes.

@@ -55,22 +55,24 @@ fn add_copy(run: &mut Run, seen: &SeenCall<'_>, from: usize, to: usize) {
 /// The descriptor whose first byte stands in hexadecimal digits before a comma, as truss writes the four bytes of each.
 fn first_of_bytes(text: &[u8]) -> Option<First<'_>> {
     let (digits, _others) = first_part(text, b',');
-    let mention = Mention {
-        number: read_hex(digits, 2)?,
-        note: b"",
-    };
-    Some(First {
-        mention,
-        behind: b"]",
-    })
+    match read_hex(digits, 2) {
+        Some(number) => Some(First {
+            mention: Mention { number, note: b"" },
+            behind: b"]",
+        }),
+        None => None,
+    }
 }
 
 /// The first descriptor that a message carries; as truss writes it, the only one that is told.
 fn first_carried<'t>(seen: &SeenCall<'t>) -> Option<First<'t>> {
     let message = seen.argument(1);
-    match behind(message, b"cmsg_type=SCM_RIGHTS, cmsg_data=") {
-        Some(list) => first_listed(list),
-        None => first_of_bytes(behind(message, b"type=SCM_RIGHTS,data={0x")?),
+    if let Some(list) = behind(message, b"cmsg_type=SCM_RIGHTS, cmsg_data=") {
+        return first_listed(list);
+    }
+    match behind(message, b"type=SCM_RIGHTS,data={0x") {
+        Some(bytes) => first_of_bytes(bytes),
+        None => None,
     }
 }
 

@@ -83,6 +83,7 @@ fn take_form(run: &mut Run, seen: &SeenCall<'_>, form: Form) {
         Form::Name(form) => name_calls::take(run, seen, form),
         Form::Pair(pairing) => pairing::take(run, seen, pairing),
         Form::World => pairing::take_world(run, seen),
+        Form::Connection => pairing::take_connection(run, seen),
         Form::Process(form) => process_calls::take(run, seen, form),
         Form::Map => take_map(run, seen),
         Form::Waits => run.want(seen, OtherRight::Event, first_waited(seen)),

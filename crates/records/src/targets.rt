@@ -49,17 +49,25 @@ pub(crate) struct Target<'t> {
 enum Base<'t> {
     Here(&'t [u8]),
     Beneath(Mention<'t>),
+    /// The root directory: the path is absolute.
+    Root,
 }
 
 impl Naming {
-    /// From where the path is counted, if that is told.
-    fn base<'t>(self, seen: &SeenCall<'t>) -> Option<Base<'t>> {
+    /// From where this path is counted, if that is told.
+    fn base<'t>(self, seen: &SeenCall<'t>, path: &[u8]) -> Option<Base<'t>> {
+        if is_absolute(path) {
+            return Some(Base::Root);
+        }
         let Some(base) = self.base else {
             return Some(Base::Here(b""));
         };
         match here_note(seen.argument(base)) {
             Some(note) => Some(Base::Here(note)),
-            None => Some(Base::Beneath(seen.mention(base)?)),
+            None => match seen.mention(base) {
+                Some(mention) => Some(Base::Beneath(mention)),
+                None => None,
+            },
         }
     }
 }
@@ -97,8 +105,11 @@ impl Known {
 
     /// The place that a path beneath a place has, if that is known.
     fn beneath(&self, kept: Kept, path: &Page) -> Option<Page> {
+        let Some(directory) = self.place_of(kept) else {
+            return None;
+        };
         let mut place = Page::new(self.alloc);
-        place.page(self.place_of(kept)?);
+        place.page(directory);
         add_beneath(&mut place, path);
         Some(place)
     }
@@ -115,22 +126,23 @@ impl Known {
 
     /// What a name of a call stands at, if that is known.
     pub(crate) fn target<'t>(&self, seen: &SeenCall<'t>, naming: Naming) -> Option<Target<'t>> {
-        let path = seen.string(self.alloc, naming.path)?;
-        if is_absolute(path.as_bytes()) {
-            return Some(Target {
-                base: None,
-                path: self.from_root(&path),
-            });
-        }
-        match naming.base(seen)? {
-            Base::Beneath(mention) => Some(Target {
-                base: Some(mention),
-                path,
-            }),
-            Base::Here(note) => Some(Target {
-                base: None,
-                path: self.from_here(note, &path)?,
-            }),
+        let Some(path) = seen.string(self.alloc, naming.path) else {
+            return None;
+        };
+        let place = match naming.base(seen, path.as_bytes()) {
+            Some(Base::Beneath(mention)) => {
+                return Some(Target {
+                    base: Some(mention),
+                    path,
+                });
+            }
+            Some(Base::Root) => Some(self.from_root(&path)),
+            Some(Base::Here(note)) => self.from_here(note, &path),
+            None => None,
+        };
+        match place {
+            Some(path) => Some(Target { base: None, path }),
+            None => None,
         }
     }
 

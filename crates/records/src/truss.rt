@@ -47,26 +47,37 @@ fn result_of(text: &[u8]) -> Option<CallResult<'_>> {
     }
     if let Some(rest) = after(text, b"= ") {
         let (word, _behind) = first_part(rest, b' ');
-        return Some(returned(answer_of(word)?, None));
+        return match answer_of(word) {
+            Some(answer) => Some(returned(answer, None)),
+            None => None,
+        };
     }
-    let (digits, _behind) = first_part(after(text, b"ERR#")?, b' ');
-    Some(returned(Answer::Failure, error_of_number(number(digits)?)))
+    let Some(rest) = after(text, b"ERR#") else {
+        return None;
+    };
+    let (digits, _behind) = first_part(rest, b' ');
+    match number(digits) {
+        Some(number) => Some(returned(Answer::Failure, error_of_number(number))),
+        None => None,
+    }
 }
 
 /// A call with its result.
 fn call_of(text: &[u8]) -> Option<Told<'_>> {
-    let (name, rest) = first_part(text, b'(');
-    let rest = rest?;
-    let at = close_of(rest)?;
-    let returned = result_of(&rest[at + 1..])?;
-    if !is_name(name) {
+    let (name, Some(rest)) = first_part(text, b'(') else {
         return None;
+    };
+    let Some(at) = close_of(rest) else {
+        return None;
+    };
+    match result_of(&rest[at + 1..]) {
+        Some(returned) if is_name(name) => Some(Told::Finished {
+            name,
+            arguments: &rest[..at],
+            returned,
+        }),
+        _ => None,
     }
-    Some(Told::Finished {
-        name,
-        arguments: &rest[..at],
-        returned,
-    })
 }
 
 /// What the text behind the process tells, if it is understood.
@@ -88,9 +99,12 @@ fn understood(text: &[u8]) -> Option<Told<'_>> {
 
 /// What a line tells, if it begins as those of truss do: with blanks, the process and a colon.
 pub(crate) fn read_truss_line(line: &[u8]) -> Option<StraceLine<'_>> {
-    let (word, behind) = first_part(without_blanks(line), b':');
-    let process = number(word)?;
-    let text = after(behind?, b" ")?;
+    let (word, Some(behind)) = first_part(without_blanks(line), b':') else {
+        return None;
+    };
+    let (Some(process), Some(text)) = (number(word), after(behind, b" ")) else {
+        return None;
+    };
     let text = behind_seconds(behind_seconds(without_blanks(text)));
     Some(StraceLine {
         process: Some(process),

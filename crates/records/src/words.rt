@@ -3,10 +3,9 @@
 ghost use Rattle.std.specs.Prelude.{◌≡◌, map};
 ghost use Rattle.std.specs.List.{list_all};
 ghost use Rattle.rights.specs.Views.{call_of};
-ghost use Rattle.records.specs.Calls.{Fails, Succeeds, is_call_name, is_call_name_byte};
+ghost use Rattle.records.specs.Calls.{is_call_name, is_call_name_byte};
 ghost use Rattle.records.specs.EntryViews.{left_out_seen, made_seen, outcome_seen, record_span_seen, wanted_seen};
 ghost use Rattle.records.specs.OperandViews.{kind_seen, operand_seen};
-ghost use Rattle.records.specs.Named.{error_of_word};
 ghost use Rattle.records.specs.ReadingViews.{Reads, Takes};
 ghost use Rattle.records.specs.Readings.{left_out_of, made_of, real_number_at, real_operand_at, operands_at, outcome_at, read_number, read_word, record_span_at, wanted_of};
 ghost use Rattle.std.specs.Prelude.{option_map};
@@ -73,20 +72,6 @@ fn take_operands(alloc: Global, words: &mut Rest<'_>, call: Call) -> Result<Vec<
     Ok(operands)
 }
 
-/// A success, with the number that a word is.
-fn success(word: &[u8]) -> Result<Outcome, LineFault>
-    ensures { Reads outcome_seen result (option_map Succeeds (read_number word.now)) }
-{
-    Ok(Outcome::Success(number(word)?))
-}
-
-/// The error that a word names.
-fn failure(word: &[u8]) -> Result<Outcome, LineFault>
-    ensures { Reads outcome_seen result (option_map Fails (error_of_word word.now)) }
-{
-    Ok(Outcome::Failure(names::find_error(word)?))
-}
-
 /// The next words, as an outcome.
 #[tactic(auto, unfolding(crate::specs::Readings::outcome_at))]
 fn take_outcome(words: &mut Rest<'_>) -> Result<Outcome, LineFault>
@@ -95,9 +80,9 @@ fn take_outcome(words: &mut Rest<'_>) -> Result<Outcome, LineFault>
     let mark = words.word()?;
     let word = words.word()?;
     if mark == b"=".as_slice() {
-        success(word)
+        Ok(Outcome::Success(number(word)?))
     } else if mark == b"!".as_slice() {
-        failure(word)
+        Ok(Outcome::Failure(names::find_error(word)?))
     } else {
         Err(LineFault::Form)
     }

@@ -1,0 +1,230 @@
+//! Names of one directory with which the same is done, as one name.
+
+use crate::assembly::is_writable;
+use crate::calls::{flags_of, path_place, removes_directory};
+use crate::places::{above, behind};
+use crate::remade::entry_copy;
+use crate::room::Room;
+use records::{Binding, Entry, Event, MadeCall, Operand, Outcome, add_flags};
+use rights::Call;
+use texts::{Page, Say, parts_of, say};
+
+/// A name, by its place.
+#[derive(Drop)]
+struct Name {
+    place: Vec<u8>,
+    /// What was done with it, each once: the call, what it was given beside, and what it came to.
+    facts: Vec<Vec<u8>>,
+    /// The place among the names of the one that stands for it.
+    stand_in: Option<usize>,
+}
+
+/// The names that records use by their places.
+#[derive(Drop)]
+struct Names {
+    list: Vec<Name>,
+}
+
+/// Where the paths of a call stand among its operands.
+fn path_places(call: Call) -> &'static [usize] {
+    match (call, path_place(call)) {
+        (Call::Renameat, _) => &[1, 3],
+        (_, Some(0)) => &[0],
+        (_, Some(_)) => &[1],
+        _ => &[],
+    }
+}
+
+/// What a call does with the name of a path: the call, which of its paths that is, what it is given beside, and what it came to.
+fn fact_of(room: &mut Room, made: &MadeCall, at: usize) -> Vec<u8> {
+    let mut page = Page::new(room.alloc());
+    say!(&mut page; made.call.name(), " ", at, " ");
+    add_flags(&mut page, flags_of(made));
+    if removes_directory(made) {
+        page.bytes(b" dir");
+    }
+    match made.outcome {
+        Outcome::Success(_) => page.bytes(b" done"),
+        Outcome::Failure(error) => say!(&mut page; " ", error.name()),
+    }
+    room.bytes(page)
+}
+
+/// Whether some facts are all among others.
+fn are_among(facts: &[Vec<u8>], others: &[Vec<u8>]) -> bool {
+    for fact in facts {
+        if !others.contains(fact) {
+            return false;
+        }
+    }
+    true
+}
+
+impl Names {
+    /// Which of the names stands at a place.
+    fn position(&self, place: &[u8]) -> Option<usize> {
+        for (at, name) in self.list.iter().enumerate() {
+            if name.place.as_slice() == place {
+                return Some(at);
+            }
+        }
+        None
+    }
+
+    /// Which of the names stands at a place; one that isn't known yet is added.
+    fn place(&mut self, room: &mut Room, place: &[u8]) -> usize {
+        if let Some(at) = self.position(place) {
+            return at;
+        }
+        let place = room.copy(place);
+        let facts = room.list();
+        room.push(
+            &mut self.list,
+            Name {
+                place,
+                facts,
+                stand_in: None,
+            },
+        );
+        self.list.len().saturating_sub(1)
+    }
+
+    /// Notes what is done with a name.
+    fn add_fact(&mut self, room: &mut Room, place: &[u8], fact: Vec<u8>) {
+        let at = self.place(room, place);
+        if let Some(name) = self.list.get_mut(at) {
+            if !name.facts.contains(&fact) {
+                room.push(&mut name.facts, fact);
+            }
+        }
+    }
+
+    /// Notes what a call does with the names of its paths.
+    fn add_call(&mut self, room: &mut Room, made: &MadeCall) {
+        for at in path_places(made.call) {
+            if let Some(Operand::Path(path)) = made.operands.get(*at) {
+                let fact = fact_of(room, made, *at);
+                self.add_fact(room, path, fact);
+            }
+        }
+    }
+
+    /// Whether something is used that lies beneath a place.
+    fn has_beneath(&self, place: &[u8]) -> bool {
+        self.list.iter().any(|name| behind(place, &name.place).is_some_and(|rest| !rest.is_empty()))
+    }
+
+    /// Whether a name may be one with others: it is a place that a task can have, and nothing is used beneath it.
+    fn may_be_merged(&self, name: &Name) -> bool {
+        name.place.first() == Some(&b'/')
+            && is_writable(&name.place)
+            && !self.has_beneath(&name.place)
+    }
+
+    /// The first name that can stand for the one of a place in the list: one of the same directory with which the same is done.
+    fn stand_in_for(&self, at: usize) -> Option<usize> {
+        let name = self.list.get(at)?;
+        if !self.may_be_merged(name) {
+            return None;
+        }
+        for (before, other) in self.list.iter().enumerate() {
+            if before >= at {
+                break;
+            }
+            if other.stand_in.is_none()
+                && above(&other.place) == above(&name.place)
+                && are_among(&name.facts, &other.facts)
+                && are_among(&other.facts, &name.facts)
+                && self.may_be_merged(other)
+            {
+                return Some(before);
+            }
+        }
+        None
+    }
+
+    /// Settles which names stand for others.
+    fn settle(&mut self) {
+        for at in 0..self.list.len() {
+            let stand_in = self.stand_in_for(at);
+            if let Some(name) = self.list.get_mut(at) {
+                name.stand_in = stand_in;
+            }
+        }
+    }
+
+    /// The place of the name that stands for another one, if one does.
+    fn stand_in_of(&self, name: &Name) -> Option<&[u8]> {
+        Some(self.list.get(name.stand_in?)?.place.as_slice())
+    }
+
+    /// The place that stands for another one, if one does.
+    fn merged(&self, place: &[u8]) -> Option<&[u8]> {
+        self.stand_in_of(self.list.get(self.position(place)?)?)
+    }
+
+    /// Puts the names into a call that stand for those of its paths and descriptors.
+    fn rewrite(&self, room: &mut Room, made: &mut MadeCall) {
+        for operand in made.operands.iter_mut() {
+            if let Operand::Path(path) = operand {
+                if let Some(place) = self.merged(path) {
+                    *path = room.copy(place);
+                }
+            }
+        }
+        for binding in made.bindings.iter_mut() {
+            if let Binding::Place { place, .. } = binding {
+                if let Some(merged) = self.merged(place) {
+                    *place = room.copy(merged);
+                }
+            }
+        }
+    }
+
+    /// Tells which names are one with others, as words of `follow`.
+    fn add_words(&self, page: &mut Page) {
+        let mut is_first = true;
+        for name in &self.list {
+            if let Some(place) = self.stand_in_of(name) {
+                if is_first {
+                    page.bytes(
+                        b"# Names of one directory that are one here, as words for `capwhy follow`:\n",
+                    );
+                    is_first = false;
+                }
+                say!(page; "#  ", name.place.as_slice(), "=", place, "\n");
+            }
+        }
+    }
+}
+
+/// The entries of records with one name for those of one directory with which the same is done. Which those are is told on a page.
+pub(crate) fn with_names_merged(
+    room: &mut Room,
+    records: &[Vec<Entry>],
+    told: &mut Page,
+) -> Vec<Vec<Entry>> {
+    let mut names = Names { list: room.list() };
+    for entries in records {
+        for entry in entries {
+            if let Event::Called(made) = &entry.event {
+                names.add_call(room, made);
+            }
+        }
+    }
+    names.settle();
+    names.add_words(told);
+    let mut all = room.list();
+    for entries in records {
+        let mut merged = room.list();
+        for entry in entries {
+            let mut copy = entry_copy(room, entry);
+            if let Event::Called(made) = &mut copy.event {
+                names.rewrite(room, made);
+            }
+            room.push(&mut merged, copy);
+        }
+        room.push(&mut all, merged);
+    }
+    all
+}
