@@ -18,7 +18,8 @@ use Rattle.answers.specs.Answered.{SaysBroken, SaysFollowed, SaysFound, SaysNoTa
 use Rattle.answers.specs.NoAnswers.{LogSaysWhether, NoSaysWhether, NoneSaysWhether, RecordsAreHeard}
 use Rattle.answers.specs.PlacingWords.{placings_in}
 use Rattle.explain.specs.TaskTexts.{IsTaskText}
-use Rattle.explain.specs.Telling.{HasHead, Tells, TellsEach, none_yet, one_more, finding_text, point_with_line}
+use Rattle.explain.proofs.Covered.{some_told}
+use Rattle.explain.specs.Telling.{HasHead, Tells, point_with_line}
 
 pub same_some : {A : Type 0} {x y : A} → Some x ≡ Some y → x ≡ y
 same_some same = cc
@@ -54,23 +55,15 @@ second_empty : (first second : List ℕ) → first ++ second ≡ [] → second �
 second_empty [] second is = is
 second_empty (byte ∷ first) second is = absurd cc
 
-nothing_told : (plan : Plan) (last : Option BrokenRule) (fs : List BrokenRule) (told : List ℕ) → TellsEach plan last fs told → told ≡ [] → fs ≡ []
-nothing_told plan last fs told none_yet is = refl
-nothing_told plan last fs told (one_more f head sentence before has) is =
-    let line = second_empty head (finding_text f sentence) (second_empty _ (head ++ finding_text f sentence) is) in
-    absurd cc
-
 no_head : (plan : Plan) (f : BrokenRule) → HasHead plan f false [] → ⊥
 no_head plan f has =
     let clash = second_empty (point_with_line (program_name plan f.program) f.point has.0) ((codes ": " ++ (has.1 ++ codes "\n"))) (sym has.2) in
     cc
 
-not_silent : (plan : Plan) (fs : List BrokenRule) (text : List ℕ) → Tells plan fs text → text ≡ [] → ⊥
+not_silent : (plan : Plan) (c : Certificate) (fs : List BrokenRule) (text : List ℕ) → Tells plan c fs text → text ≡ [] → ⊥
 unfolding Tells
-not_silent plan [] text tells is = let clash = sym tells ∙ is in cc
-not_silent plan (f ∷ fs) text tells is =
-    let clash = nothing_told plan tells.last (f ∷ fs) tells.told tells.each (second_empty tells.before tells.told (sym tells.whole ∙ is)) in
-    cc
+not_silent plan c [] text tells is = let clash = sym tells ∙ is in cc
+not_silent plan c (f ∷ fs) text tells is = some_told plan c f fs tells.last tells.told tells.each (second_empty tells.before tells.told (sym tells.whole ∙ is))
 
 added_nothing : (text more : List ℕ) → text ≡ text ++ more → more ≡ []
 added_nothing [] more is = sym is
@@ -85,7 +78,7 @@ no_says = record {
       refused_if text bounds_text plan bounds is_task is_certificate answers.text answers.bounds_text answers.told
       (same_some (sym answers.is_file ∙ is_text)) (same_some (sym answers.is_bounds ∙ is_bounds)) answers.says accepted;
   silent = λ files task certificate status before answers.
-      not_silent answers.says.plan (findings answers.says.plan (expansion answers.says.plan answers.says.bounds)) answers.told answers.says.tells
+      not_silent answers.says.plan (expansion answers.says.plan answers.says.bounds) (findings answers.says.plan (expansion answers.says.plan answers.says.bounds)) answers.told answers.says.tells
       (added_nothing before answers.told (same_some answers.writes));
   headless = no_head;
 }

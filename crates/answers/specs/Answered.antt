@@ -41,7 +41,7 @@ pub record SaysBroken (status : ℕ) (task certificate text : List ℕ) : Type 0
   pub bounds : Certificate
   pub is_certificate : certificate_of_text certificate ≡ Ok bounds
   pub says : SaysWhether status (IsAccepted plan bounds)
-  pub tells : Tells plan (findings plan (expansion plan bounds)) text
+  pub tells : Tells plan (expansion plan bounds) (findings plan (expansion plan bounds)) text
 
 -- the same without what is told
 pub record SaysChecked (status : ℕ) (task certificate : List ℕ) : Type 0 where

@@ -1,4 +1,4 @@
 pub mod Refused
 pub mod Tellings
-pub mod BeyondRows
-mod UnneededRows
+pub mod Covered
+mod CoveringRows

@@ -1,5 +1,4 @@
 pub mod TaskTexts
+pub mod Covering
 pub mod Telling
 pub mod Breaking
-pub mod Beyond
-pub mod Unneeded

@@ -1,7 +1,9 @@
 -- How the rules that a certificate breaks are told. (own)
-use Rattle.std.specs.Prelude.{◌≡◌, ◌==◌, ◌&&◌, ℕ, Bool, true, false, List, [], ◌∷◌, ◌++◌, Option, Some, None, codes}
+use Rattle.std.specs.Prelude.{◌≡◌, ◌==◌, ◌&&◌, ℕ, Bool, true, false, List, [], ◌∷◌, ◌++◌, Option, Some, None, codes, if◌then◌else◌, min, ◌^◌, ◌-◌}
 use Rattle.std.specs.Fmt.{decimal}
+use Rattle.certificate.specs.Bounds.{Certificate}
 use Rattle.checker.specs.Findings.{BrokenRule}
+use Rattle.explain.specs.Covering.{count_under, is_counted}
 use Rattle.task.specs.Plans.{Plan, program_name}
 
 -- a point with the line where it stands in the file: `main:2 (line 31)`
@@ -25,24 +27,32 @@ HasHead plan f false text = (line : ℕ) × (written : List ℕ) × (text ≡ he
 abbrev pub finding_text : BrokenRule → List ℕ → List ℕ
 finding_text f sentence = codes "  K" ++ decimal f.rule ++ codes " " ++ sentence ++ codes "\n"
 
--- Each of these is told, in their order: to those before, of which this is the last, one more is added behind.
-pub data TellsEach (plan : Plan) : Option BrokenRule → List BrokenRule → List ℕ → Type 0 where
-  none_yet : TellsEach plan None [] []
+-- Behind it stands how many others are counted under it, if there are such, as a number of 32 bits.
+abbrev pub others_text : ℕ → List ℕ
+others_text count =
+    if count == 0 then [] else codes "    later points that lead to no other without a bound, not told: " ++ decimal (min count (2 ^ 32 - 1)) ++ codes "\n"
+
+-- Each of these findings among all is told, in their order, but those that are counted under another: to those before, of which this is the
+-- last that is told, one more is added behind.
+pub data TellsEach (plan : Plan) (c : Certificate) (all : List BrokenRule) : Option BrokenRule → List BrokenRule → List ℕ → Type 0 where
+  none_yet : TellsEach plan c all None [] []
   one_more : {last : Option BrokenRule} {fs : List BrokenRule} {told : List ℕ} (f : BrokenRule) (head sentence : List ℕ) →
-      TellsEach plan last fs told → HasHead plan f (is_same_point last f) head →
-      TellsEach plan (Some f) (fs ++ (f ∷ [])) (told ++ (head ++ finding_text f sentence))
+      TellsEach plan c all last fs told → is_counted plan c all f ≡ false → HasHead plan f (is_same_point last f) head →
+      TellsEach plan c all (Some f) (fs ++ (f ∷ [])) (told ++ (head ++ (finding_text f sentence ++ others_text (count_under plan c all f))))
+  one_counted : {last : Option BrokenRule} {fs : List BrokenRule} {told : List ℕ} (f : BrokenRule) →
+      TellsEach plan c all last fs told → is_counted plan c all f ≡ true → TellsEach plan c all last (fs ++ (f ∷ [])) told
 
 -- All are told, behind what is told of the certificate as a whole; or it is said that there is none.
-pub record TellsAll (plan : Plan) (fs : List BrokenRule) (text : List ℕ) : Type 0 where
+pub record TellsAll (plan : Plan) (c : Certificate) (fs : List BrokenRule) (text : List ℕ) : Type 0 where
   pub last : Option BrokenRule
   pub before : List ℕ
   pub told : List ℕ
-  pub each : TellsEach plan last fs told
+  pub each : TellsEach plan c fs last fs told
   pub whole : text ≡ before ++ told
 
 abbrev pub no_rule_broken : List ℕ
 no_rule_broken = codes "no rule is broken: the certificate is accepted\n"
 
-unfoldable pub Tells : Plan → List BrokenRule → List ℕ → Type 0
-Tells plan [] text = text ≡ no_rule_broken
-Tells plan (f ∷ fs) text = TellsAll plan (f ∷ fs) text
+unfoldable pub Tells : Plan → Certificate → List BrokenRule → List ℕ → Type 0
+Tells plan c [] text = text ≡ no_rule_broken
+Tells plan c (f ∷ fs) text = TellsAll plan c (f ∷ fs) text

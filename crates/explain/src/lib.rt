@@ -4,9 +4,9 @@
 
 mod arriving;
 mod authority_rules;
-pub mod beyond;
 mod breaking;
 mod call_rules;
+mod covering;
 pub mod failing;
 mod folding;
 pub mod listing;
@@ -21,10 +21,8 @@ pub mod sentences;
 mod starting;
 pub mod task_faults;
 pub mod topics;
-pub mod unneeded;
 pub mod warning;
 
-pub use beyond::{held_in_mode, rights_beyond, unlisted_rights};
 pub use failing::add_unfound;
 pub use listing::add_listing;
 pub use observations::{Observation, add_points, line_of};

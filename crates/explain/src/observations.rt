@@ -20,6 +20,21 @@ pub struct Observation {
     pub more: Page,
 }
 
+impl Observation {
+    /// One in these words, at these points, if there are such.
+    pub(crate) fn new(topic: Topic, words: Page, points: Vec<usize>) -> Observation {
+        let more = Page::new(words.alloc());
+        let joint = " at ";
+        Observation {
+            topic,
+            words,
+            points,
+            joint,
+            more,
+        }
+    }
+}
+
 /// Observations as they are gathered. Where memory is refused for some, it goes on without them, and `finish` says so.
 #[derive(Drop)]
 pub(crate) struct Observed {

@@ -1,12 +1,14 @@
 //! All rules that a certificate breaks, with where and why.
 
-ghost use Rattle.std.specs.Prelude.{◌≡◌, ◌++◌, ℕ, IfOk, List, Option, map, option_map};
+ghost use Rattle.std.specs.Prelude.{◌≡◌, ◌++◌, ◌∷◌, [], ℕ, IfOk, List, Option, map, option_map};
 ghost use Rattle.checker.specs.FindingViews.{broken_rule_of};
-ghost use Rattle.explain.specs.Telling.{HasHead, Tells, TellsEach, finding_text, head_text, is_same_point};
+ghost use Rattle.explain.specs.Covering.{count_under};
+ghost use Rattle.explain.specs.Telling.{HasHead, Tells, TellsEach, finding_text, head_text, is_same_point, others_text};
 ghost use Rattle.checker.specs.Findings.{BrokenRule as BrokenRuleSeen};
 ghost use Rattle.task.specs.Plans.{program_name};
 ghost use Rattle.texts.specs.PageViews.{Adds};
 
+use crate::covering::{count_under, is_counted};
 use crate::older::add_older;
 use crate::scenes::Scene;
 use crate::sentences::sentence;
@@ -54,37 +56,75 @@ fn add_rule(page: &mut Page, scene: &Scene<'_>, found: BrokenRule)
     say!(page; "  K", found.rule.number(), " ", &sentence, "\n")
 }
 
-/// Adds a finding behind others.
-fn add_finding(page: &mut Page, scene: &Scene<'_>, before: Option<BrokenRule>, found: BrokenRule)
-    ensures { (head : List ℕ) × (sentence : List ℕ)
-        × HasHead scene.now.task.now (broken_rule_of found) (is_same_point (option_map broken_rule_of before) (broken_rule_of found)) head
-        × Adds page.old page.new (head ++ finding_text (broken_rule_of found) sentence) }
+/// Adds how many findings are counted under one.
+fn add_others(page: &mut Page, count: usize)
+    ensures { Adds page.old page.new (others_text count) }
 {
-    add_new_head(page, scene, before, found);
-    add_rule(page, scene, found)
-}
-
-/// Adds the rules that are broken, point by point.
-pub(crate) fn add_findings(page: &mut Page, scene: &Scene<'_>, found: &[BrokenRule])
-    ensures { (last : Option BrokenRuleSeen) × (told : List ℕ)
-        × TellsEach scene.now.task.now last (map broken_rule_of found.now) told × Adds page.old page.new told }
-{
-    let mut last = None;
-    for finding in found {
-        add_finding(page, scene, last, *finding);
-        last = Some(*finding);
+    if count != 0 {
+        say!(page; "    later points that lead to no other without a bound, not told: ", count, "\n")
     }
 }
 
-/// What is told of the rules that a certificate breaks: each in its order, below the point where it is broken; or that none is. Want of memory is the
-/// only error.
+/// Adds a finding of these behind others.
+fn add_finding(
+    page: &mut Page,
+    scene: &Scene<'_>,
+    all: &[BrokenRule],
+    before: Option<BrokenRule>,
+    found: BrokenRule,
+)
+    ensures { (head : List ℕ) × (sentence : List ℕ)
+        × HasHead scene.now.task.now (broken_rule_of found) (is_same_point (option_map broken_rule_of before) (broken_rule_of found)) head
+        × Adds page.old page.new (head ++ (finding_text (broken_rule_of found) sentence
+        ++ others_text (count_under scene.now.task.now scene.now.cert.now (map broken_rule_of all.now) (broken_rule_of found)))) }
+{
+    add_new_head(page, scene, before, found);
+    add_rule(page, scene, found);
+    add_others(page, count_under(scene, all, found))
+}
+
+/// Adds a finding of these behind others, unless it is counted under another. Which one was told last is given.
+fn add_next(
+    page: &mut Page,
+    scene: &Scene<'_>,
+    all: &[BrokenRule],
+    last: Option<BrokenRule>,
+    found: BrokenRule,
+) -> Option<BrokenRule>
+    ensures { (fs : List BrokenRuleSeen) (before : List ℕ)
+        → TellsEach scene.now.task.now scene.now.cert.now (map broken_rule_of all.now) (option_map broken_rule_of last) fs before
+        → (told : List ℕ) × Adds page.old page.new told
+        × TellsEach scene.now.task.now scene.now.cert.now (map broken_rule_of all.now) (option_map broken_rule_of result)
+        (fs ++ (broken_rule_of found ∷ [])) (before ++ told) }
+{
+    if is_counted(scene, all, found) {
+        return last;
+    }
+    add_finding(page, scene, all, last, found);
+    Some(found)
+}
+
+/// Adds the rules that are broken, point by point. Those that are counted under others aren't told one by one.
+pub(crate) fn add_findings(page: &mut Page, scene: &Scene<'_>, found: &[BrokenRule])
+    ensures { (last : Option BrokenRuleSeen) × (told : List ℕ)
+        × TellsEach scene.now.task.now scene.now.cert.now (map broken_rule_of found.now) last (map broken_rule_of found.now) told
+        × Adds page.old page.new told }
+{
+    let mut last = None;
+    for finding in found {
+        last = add_next(page, scene, found, last, *finding);
+    }
+}
+
+/// What is told of the rules that a certificate breaks: each in its order, below the point where it is broken, but those that are counted under
+/// another; or that none is. Want of memory is the only error.
 pub fn findings_text(
     alloc: Global,
     scene: &Scene<'_>,
     cert: &Cert,
     found: &[BrokenRule],
 ) -> Result<Vec<u8>, AllocError>
-    ensures { IfOk result (λ text. Tells scene.now.task.now (map broken_rule_of found.now) text.items) }
+    ensures { IfOk result (λ text. Tells scene.now.task.now scene.now.cert.now (map broken_rule_of found.now) text.items) }
 {
     let mut page = Page::new(alloc);
     if found.is_empty() {

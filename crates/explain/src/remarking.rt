@@ -1,12 +1,14 @@
 //! How remarks are told.
 
-use crate::beyond::{beyond_at_all, points_beyond};
 use crate::observations::{Observation, Observed, add_points};
 use crate::scenes::Scene;
 use crate::topics::Topic;
-use crate::unneeded::unneeded;
 use certificate::Cert;
-use remarks::{Remark, Remarked, TaskRemark, bounds_on, remarks_on, remarks_on_task};
+use remarks::unneeded::unneeded;
+use remarks::{
+    Remark, Remarked, TaskRemark, beyond_at_all, bounds_on, points_beyond, remarks_on,
+    remarks_on_task,
+};
 use rights::limits::MAX_DESCRIPTORS;
 use rights::{Op, Rights};
 use std::alloc::{AllocError, Global};
@@ -45,36 +47,6 @@ fn joint_of(remark: &Remark) -> &'static str {
     }
 }
 
-/// Adds what is remarked of a number.
-fn add_of_number(page: &mut Page, remark: &Remark) {
-    match remark {
-        Remark::Stray { number } => {
-            say!(page; "descriptor ", *number, " may hold what lies in no grant, and the report has no line of it, in the mode")
-        }
-        Remark::Idle { number } => {
-            say!(page; "descriptor ", *number, " is held in the mode and never named from there on, so it can be closed")
-        }
-        Remark::Rights { number, most } => {
-            say!(page; "descriptor ", *number, " could be limited to ", *most);
-            say!(page; ", since no call from there on can use its other rights, in the mode")
-        }
-        Remark::Commands { number, most } => {
-            say!(page; "descriptor ", *number, " could be limited to the commands ", *most);
-            say!(page; ", since no call from there on can use its others, in the mode")
-        }
-        Remark::BothEnds { number, other } => {
-            say!(page; "one process holds both ends of a pair, descriptors ", *number, " and ", *other, ", from there on")
-        }
-        Remark::NeverOpen { number } => {
-            say!(page; "descriptor ", *number, " is never open where the instruction names it")
-        }
-        Remark::NeverEnters
-        | Remark::Untrusted
-        | Remark::Unreached { .. }
-        | Remark::Unsettled { .. } => {}
-    }
-}
-
 /// Adds what is remarked.
 fn add_text(page: &mut Page, name: &[u8], remark: &Remark) {
     match remark {
@@ -90,12 +62,24 @@ fn add_text(page: &mut Page, name: &[u8], remark: &Remark) {
             outside_alone: true,
         } => say!(page; "nothing arrives outside the mode"),
         Remark::Unsettled { .. } => say!(page; "a process may be in the mode or outside it"),
-        Remark::Stray { .. }
-        | Remark::Idle { .. }
-        | Remark::Rights { .. }
-        | Remark::Commands { .. }
-        | Remark::BothEnds { .. }
-        | Remark::NeverOpen { .. } => add_of_number(page, remark),
+        Remark::Stray { number } => {
+            say!(page; "descriptor ", *number, " may hold what lies in no grant, and the report has no line of it, in the mode")
+        }
+        Remark::Idle { number } => {
+            say!(page; "descriptor ", *number, " is held in the mode and never named from there on, so it can be closed")
+        }
+        Remark::Rights { number, most } => {
+            say!(page; "descriptor ", *number, " could be limited to ", *most, ", since no call from there on can use its other rights, in the mode")
+        }
+        Remark::Commands { number, most } => {
+            say!(page; "descriptor ", *number, " could be limited to the commands ", *most, ", since no call from there on can use its others, in the mode")
+        }
+        Remark::BothEnds { number, other } => {
+            say!(page; "one process holds both ends of a pair, descriptors ", *number, " and ", *other, ", from there on")
+        }
+        Remark::NeverOpen { number } => {
+            say!(page; "descriptor ", *number, " is never open where the instruction names it")
+        }
     }
 }
 
@@ -130,13 +114,7 @@ fn told(alloc: Global, name: &[u8], remarked: Remarked) -> Observation {
 fn told_beyond(alloc: Global, number: u32, rights: Rights, points: Vec<usize>) -> Observation {
     let mut words = Page::new(alloc);
     say!(&mut words; "descriptor ", number, " has rights beyond what its grant lists, ", rights, ", in the mode");
-    Observation {
-        topic: Topic::BeyondPolicy,
-        words,
-        points,
-        joint: " at ",
-        more: Page::new(alloc),
-    }
+    Observation::new(Topic::BeyondPolicy, words, points)
 }
 
 /// Adds which numbers of a program have rights beyond the policy.
@@ -174,27 +152,6 @@ pub fn program_remarks(
     observed.finish()
 }
 
-/// What a remark on a task is about.
-fn topic_of_task_remark(remark: TaskRemark<'_>) -> Topic {
-    match remark {
-        TaskRemark::Alone { .. } => Topic::LoneEnd,
-        TaskRemark::Boundless { .. } => Topic::WholeTree,
-    }
-}
-
-/// Adds what is remarked on the task.
-fn add_task_text(page: &mut Page, remark: TaskRemark<'_>) {
-    match remark {
-        TaskRemark::Alone { pair, side } => {
-            say!(page; "no process has side ", side.other(), " of pair ", pair, ", so it is closed: a read of side ", side);
-            say!(page; " meets its end, and a write fails")
-        }
-        TaskRemark::Boundless { grant } => {
-            say!(page; "the grant ", grant.name.as_bytes(), " holds the whole tree")
-        }
-    }
-}
-
 /// Whether some untrusted program may hold what lies in a grant.
 fn has_ceiling(cert: &Cert, grant: &Grant) -> bool {
     for authority in cert.authorities() {
@@ -215,13 +172,7 @@ fn told_unneeded(alloc: Global, scene: &Scene<'_>, grant: &Grant, operation: Op)
     if has_ceiling(scene.cert, grant) {
         say!(&mut words; ", and for which no ceiling has a right");
     }
-    Observation {
-        topic: Topic::OperationUnused,
-        words,
-        points: Vec::new(alloc),
-        joint: "",
-        more: Page::new(alloc),
-    }
+    Observation::new(Topic::OperationUnused, words, Vec::new(alloc))
 }
 
 /// Adds which operations grants list that nothing needs.
@@ -238,14 +189,19 @@ fn add_unneeded(observed: &mut Observed, scene: &Scene<'_>) {
 /// A remark on a task in words.
 fn told_of_task(alloc: Global, remark: TaskRemark<'_>) -> Observation {
     let mut words = Page::new(alloc);
-    add_task_text(&mut words, remark);
-    Observation {
-        topic: topic_of_task_remark(remark),
-        words,
-        points: Vec::new(alloc),
-        joint: "",
-        more: Page::new(alloc),
-    }
+    let page = &mut words;
+    let topic = match remark {
+        TaskRemark::Alone { pair, side } => {
+            say!(page; "no process has side ", side.other(), " of pair ", pair, ", so it is closed: a read of side ", side);
+            say!(page; " meets its end, and a write fails");
+            Topic::LoneEnd
+        }
+        TaskRemark::Boundless { grant } => {
+            say!(page; "the grant ", grant.name.as_bytes(), " holds the whole tree");
+            Topic::WholeTree
+        }
+    };
+    Observation::new(topic, words, Vec::new(alloc))
 }
 
 /// The remarks on a task as a whole: with the bounds of the certificate, if there is one.

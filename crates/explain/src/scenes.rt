@@ -2,8 +2,8 @@
 
 ghost use Rattle.std.specs.Prelude.{◌≡◌, ◌≤◌, Some, length, true};
 ghost use Rattle.explain.specs.Telling.{point_with_line};
-ghost use Rattle.instruction_set.specs.Views.{instruction_of};
-ghost use Rattle.task.specs.Plans.{program_name};
+ghost use Rattle.instruction_set.specs.Views.{code_of, instruction_of};
+ghost use Rattle.task.specs.Plans.{program_name, programs_of_plan};
 ghost use Rattle.transfer.specs.Limits.{leaves_known};
 
 use certificate::{Bound, Cert};
@@ -57,7 +57,8 @@ impl<'a> Scene<'a> {
         task: &'a Task,
         cert: &'a Cert,
     ) -> Scene<'a>
-        ensures { result.task.now ≡ task.now }
+        ensures task { result.task.now ≡ task.now }
+        ensures cert { result.cert.now ≡ cert.now }
     {
         Scene {
             file,
@@ -89,16 +90,12 @@ impl<'a> Scene<'a> {
 
     /// The code of a program.
     pub(crate) fn code(&self, program: u8) -> &'a [Instruction]
-        ensures { length result.now ≤ 256 }
+        ensures code { code_of result.now ≡ programs_of_plan self.now.task.now program }
+        ensures few { length result.now ≤ 256 }
     {
         match self.task.programs().get(usize::from(program)) {
             Some(program) => program.program.code(),
             None => &[],
         }
     }
-}
-
-/// A number of a point or a line, as it is written.
-pub(crate) fn short(number: usize) -> u32 {
-    u32::try_from(number).unwrap_or(u32::MAX)
 }

@@ -2,7 +2,7 @@
 
 use crate::observations::{Observation, Observed};
 use crate::topics::Topic;
-use certificate::Cert;
+use certificate::{Ceiling, Cert};
 use remarks::{
     Difference, Warnings, directories_at_start, more_at_start, prying_ceilings, warnings_on,
     widest_ceilings,
@@ -32,75 +32,61 @@ enum Subject {
     Ceiling(Name),
 }
 
-/// What FreeBSD does there and what to write, and the part of docs/FREEBSD.md that says more.
-#[derive(Clone, Copy)]
-struct Words {
-    text: &'static str,
-    part: &'static str,
-}
-
-/// What is said of a call that is otherwise.
-fn words_of_difference(difference: Difference) -> Words {
+/// What FreeBSD does in a call that is otherwise, and what to write.
+fn text_of_difference(difference: Difference) -> &'static str {
     match difference {
-        Difference::AbsolutePath => Words {
-            text: "outside the mode an absolute path is looked up from the root, with all rights; write open",
-            part: "absolute-paths",
-        },
-        Difference::WayOut => Words {
-            text: "outside the mode `..` and links lead out of a directory that isn't limited; write a limit before it",
-            part: "ways-out-of-a-directory",
-        },
-        Difference::LastLink => Words {
-            text: "outside the mode a file is made where a last link leads, beneath a directory that isn't limited; write a limit before it",
-            part: "a-last-link-that-is-created",
-        },
-        Difference::CommandsGone => Words {
-            text: "a descriptor without FCNTL has no command to keep; write this limit before that of rights, or none",
-            part: "commands-without-fcntl",
-        },
-        Difference::NoNumberLeft => Words {
-            text: "all sixteen numbers may be open, and a process may have more; write a close before it",
-            part: "sixteen-numbers",
-        },
-        Difference::UnlistedLook => Words {
-            text: "LOOKUP reads the texts of links, and READ lists a directory; write look into the grant's ops",
-            part: "what-a-right-does-beyond-its-calls",
-        },
+        Difference::AbsolutePath =>
+            "outside the mode an absolute path is looked up from the root, with all rights; write open",
+        Difference::WayOut =>
+            "outside the mode `..` and links lead out of a directory that isn't limited; write a limit before it",
+        Difference::LastLink =>
+            "outside the mode a file is made where a last link leads, beneath a directory that isn't limited; write a limit before it",
+        Difference::CommandsGone =>
+            "a descriptor without FCNTL has no command to keep; write this limit before that of rights, or none",
+        Difference::NoNumberLeft =>
+            "all sixteen numbers may be open, and a process may have more; write a close before it",
+        Difference::UnlistedLook =>
+            "LOOKUP reads the texts of links, and READ lists a directory; write look into the grant's ops",
     }
 }
 
-/// What is said of a matter.
-fn words_of(matter: Matter) -> Words {
+/// What FreeBSD does there, and what to write.
+fn text_of(matter: Matter) -> &'static str {
     match matter {
-        Matter::Differs(difference) => words_of_difference(difference),
-        Matter::FailedClose => Words {
-            text: "a close that fails may free the number; write an else that leads to a halt",
-            part: "a-close-that-fails",
+        Matter::Differs(difference) => text_of_difference(difference),
+        Matter::FailedClose =>
+            "a close that fails may free the number; write an else that leads to a halt",
+        Matter::NoSandbox =>
+            "a kernel may have no capability mode; write an else that leads to a halt",
+        Matter::TakesMore =>
+            "has more rights or commands than a task can name; write a limit of both before it",
+        Matter::StartsWithMore =>
+            "starts with more rights or commands than a task can name; write rights and fcntls",
+        Matter::Directory =>
+            "is a directory: READ lists its names, and LOOKUP reads the texts of its links; write look into the grant's ops, or a limit before it",
+        Matter::WidestCeiling =>
+            "has all rights, more than a task can name; write limits before the mode is entered",
+        Matter::PryingCeiling =>
+            "has LOOKUP, which reads the texts of links; write look into the grant's ops",
+    }
+}
+
+/// The part of docs/FREEBSD.md that says more.
+fn part_of(matter: Matter) -> &'static str {
+    match matter {
+        Matter::Differs(difference) => match difference {
+            Difference::AbsolutePath => "absolute-paths",
+            Difference::WayOut => "ways-out-of-a-directory",
+            Difference::LastLink => "a-last-link-that-is-created",
+            Difference::CommandsGone => "commands-without-fcntl",
+            Difference::NoNumberLeft => "sixteen-numbers",
+            Difference::UnlistedLook => "what-a-right-does-beyond-its-calls",
         },
-        Matter::NoSandbox => Words {
-            text: "a kernel may have no capability mode; write an else that leads to a halt",
-            part: "no-sandbox-at-all",
-        },
-        Matter::TakesMore => Words {
-            text: "has more rights or commands than a task can name; write a limit of both before it",
-            part: "more-calls-and-rights",
-        },
-        Matter::StartsWithMore => Words {
-            text: "starts with more rights or commands than a task can name; write rights and fcntls",
-            part: "more-calls-and-rights",
-        },
-        Matter::Directory => Words {
-            text: "is a directory: READ lists its names, and LOOKUP reads the texts of its links; write look into the grant's ops, or a limit before it",
-            part: "what-a-right-does-beyond-its-calls",
-        },
-        Matter::WidestCeiling => Words {
-            text: "has all rights, more than a task can name; write limits before the mode is entered",
-            part: "more-calls-and-rights",
-        },
-        Matter::PryingCeiling => Words {
-            text: "has LOOKUP, which reads the texts of links; write look into the grant's ops",
-            part: "what-a-right-does-beyond-its-calls",
-        },
+        Matter::FailedClose => "a-close-that-fails",
+        Matter::NoSandbox => "no-sandbox-at-all",
+        Matter::TakesMore | Matter::StartsWithMore | Matter::WidestCeiling =>
+            "more-calls-and-rights",
+        Matter::Directory | Matter::PryingCeiling => "what-a-right-does-beyond-its-calls",
     }
 }
 
@@ -116,18 +102,18 @@ fn add_subject(page: &mut Page, subject: Subject) {
 /// Adds a warning at a point.
 fn add(observed: &mut Observed, point: usize, subject: Subject, matter: Matter) {
     let alloc = observed.alloc();
-    let said = words_of(matter);
     let mut words = Page::new(alloc);
     add_subject(&mut words, subject);
-    say!(&mut words; said.text);
+    say!(&mut words; text_of(matter));
     let points = observed.gathered(Vec::from_slice(alloc, &[point]));
-    observed.add(Observation {
-        topic: Topic::FreeBsd(said.part),
-        words,
-        points,
-        joint: " at ",
-        more: Page::new(alloc),
-    })
+    observed.add(Observation::new(Topic::FreeBsd(part_of(matter)), words, points))
+}
+
+/// Adds a warning of each of some numbers.
+fn add_numbers(observed: &mut Observed, point: usize, numbers: &[u32], matter: Matter) {
+    for number in numbers {
+        add(observed, point, Subject::Descriptor(*number), matter);
+    }
 }
 
 /// Adds what is warned of at a point.
@@ -141,21 +127,14 @@ fn add_point(observed: &mut Observed, point: usize, warnings: &Warnings) {
     if warnings.no_sandbox {
         add(observed, point, Subject::Call, Matter::NoSandbox);
     }
-    for number in &warnings.numbers {
-        add(
-            observed,
-            point,
-            Subject::Descriptor(*number),
-            Matter::TakesMore,
-        );
-    }
-    for number in &warnings.directories {
-        add(
-            observed,
-            point,
-            Subject::Descriptor(*number),
-            Matter::Directory,
-        );
+    add_numbers(observed, point, &warnings.numbers, Matter::TakesMore);
+    add_numbers(observed, point, &warnings.directories, Matter::Directory);
+}
+
+/// Adds a warning of each of some ceilings.
+fn add_each(observed: &mut Observed, ceilings: &[Ceiling], matter: Matter) {
+    for ceiling in ceilings {
+        add(observed, 0, Subject::Ceiling(*ceiling.grant()), matter);
     }
 }
 
@@ -163,34 +142,18 @@ fn add_point(observed: &mut Observed, point: usize, warnings: &Warnings) {
 /// looking.
 fn add_ceilings(observed: &mut Observed, task: &Task, bounds: &Cert, name: &Name) {
     let widest = widest_ceilings(observed.alloc(), bounds, name);
-    for ceiling in &observed.gathered(widest) {
-        add(
-            observed,
-            0,
-            Subject::Ceiling(*ceiling.grant()),
-            Matter::WidestCeiling,
-        );
-    }
+    let widest = observed.gathered(widest);
+    add_each(observed, &widest, Matter::WidestCeiling);
     let prying = prying_ceilings(observed.alloc(), task.grants(), bounds, name);
-    for ceiling in &observed.gathered(prying) {
-        add(
-            observed,
-            0,
-            Subject::Ceiling(*ceiling.grant()),
-            Matter::PryingCeiling,
-        );
-    }
+    let prying = observed.gathered(prying);
+    add_each(observed, &prying, Matter::PryingCeiling);
 }
 
 /// Adds a warning of each first descriptor among these.
 fn add_first(observed: &mut Observed, descriptors: &[FirstDescriptor], matter: Matter) {
     for first in descriptors {
-        add(
-            observed,
-            0,
-            Subject::Descriptor(u32::from(first.number)),
-            matter,
-        );
+        let number = u32::from(first.number);
+        add(observed, 0, Subject::Descriptor(number), matter);
     }
 }
 

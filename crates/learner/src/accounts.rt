@@ -1,6 +1,6 @@
 //! How many messages of the task a read or a write of the record is, of pairs between its own processes.
 
-use crate::calls::{RecordedEnd, end_of, number_at};
+use crate::calls::{RecordedEnd, end_through};
 use crate::room::Room;
 use records::{Entry, Event, MadeCall};
 use rights::{Call, Side};
@@ -73,8 +73,7 @@ fn add_call(room: &mut Room, streams: &mut Vec<Stream>, made: &MadeCall, entry: 
         return;
     }
     let bytes = made.bytes.unwrap_or(0);
-    let end = number_at(made, 0).and_then(|number| end_of(made, number));
-    if let Some(end) = end {
+    if let Some(end) = end_through(made) {
         if end.pair > 0 && bytes > 0 {
             add_part(
                 room,
@@ -84,6 +83,14 @@ fn add_call(room: &mut Room, streams: &mut Vec<Stream>, made: &MadeCall, entry: 
                 Part { entry, bytes },
             );
         }
+    }
+}
+
+/// How many bytes a part has; none, where there is no more.
+fn bytes_of(parts: &[Part], at: usize) -> u32 {
+    match parts.get(at) {
+        Some(part) => part.bytes,
+        None => 0,
     }
 }
 
@@ -98,10 +105,10 @@ impl Progress {
     /// What is left of the parts at which it stands.
     fn begin(&mut self, stream: &Stream) {
         if self.left_of_sent == 0 {
-            self.left_of_sent = stream.sent.get(self.sent).map_or(0, |part| part.bytes);
+            self.left_of_sent = bytes_of(&stream.sent, self.sent);
         }
         if self.left_of_taken == 0 {
-            self.left_of_taken = stream.taken.get(self.taken).map_or(0, |part| part.bytes);
+            self.left_of_taken = bytes_of(&stream.taken, self.taken);
         }
     }
 

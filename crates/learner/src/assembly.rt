@@ -1,6 +1,6 @@
 //! A call of a record as the assembly language has it.
 
-use crate::calls::{is_descriptor, number_at, path_at, path_place};
+use crate::calls::{is_descriptor, path_of};
 use crate::places::last_name;
 use crate::room::Room;
 use crate::tables::{Holding, Table};
@@ -86,11 +86,10 @@ pub(crate) fn assembly_of(
 
 /// The last name of what a call is of: its path's, or that of the node that its descriptor is of.
 pub(crate) fn subject_of(room: &mut Room, table: &Table, made: &MadeCall) -> Vec<u8> {
-    if let Some(path) = path_place(made.call).and_then(|at| path_at(made, at)) {
+    if let Some(path) = path_of(made) {
         return room.copy(last_name(path));
     }
-    let held = number_at(made, 0).and_then(|number| table.of(number));
-    match held.map(|held| &held.holding) {
+    match table.through(made) {
         Some(Holding::Node(place)) => room.copy(last_name(place)),
         _ => room.list(),
     }

@@ -139,6 +139,30 @@ pub(crate) fn path_place(call: Call) -> Option<usize> {
     }
 }
 
+/// The path that a call is given, behind its directory if it has one.
+pub(crate) fn path_of(made: &MadeCall) -> Option<&[u8]> {
+    match path_place(made.call) {
+        Some(at) => path_at(made, at),
+        None => None,
+    }
+}
+
+/// The end that a call goes through.
+pub(crate) fn end_through(made: &MadeCall) -> Option<RecordedEnd> {
+    match number_at(made, 0) {
+        Some(number) => end_of(made, number),
+        None => None,
+    }
+}
+
+/// The place that the descriptor is of which a call gave.
+pub(crate) fn place_given(made: &MadeCall) -> Option<&[u8]> {
+    match answer_of(made) {
+        Some(answer) => place_of(made, answer),
+        None => None,
+    }
+}
+
 /// Whether a call makes a descriptor.
 pub(crate) fn makes_descriptor(call: Call) -> bool {
     matches!(

@@ -106,7 +106,30 @@ fn pad(page: &mut Page, begin: usize, column: usize) {
     }
 }
 
+/// The call of the first of some states that is its choice, or its first one.
+fn first_choice<'a>(
+    automaton: &'a Automaton,
+    states: &[usize],
+    choice: Option<usize>,
+) -> Option<&'a Choice> {
+    let [first, ..] = states else {
+        return None;
+    };
+    match automaton.states.get(*first) {
+        Some(state) => state.choices.get(choice.unwrap_or(0)),
+        None => None,
+    }
+}
+
 impl Writer {
+    /// The block that a label is of, if there is one.
+    fn labelled(&self, label: Option<usize>) -> Option<&Block> {
+        match label {
+            Some(block) => self.blocks.get(block),
+            None => None,
+        }
+    }
+
     /// Whether a block has this label.
     fn is_taken(&self, label: &[u8]) -> bool {
         if label == b"fail".as_slice() {
@@ -142,11 +165,7 @@ impl Writer {
         states: &[usize],
         choice: Option<usize>,
     ) -> Vec<u8> {
-        let state = states
-            .first()
-            .and_then(|state| automaton.states.get(*state));
-        let first = state.and_then(|state| state.choices.get(choice.unwrap_or(0)));
-        let label = match first {
+        let label = match first_choice(automaton, states, choice) {
             Some(choice) => label_of(room, choice),
             None => room.copy(b"end"),
         };
@@ -421,7 +440,7 @@ impl Writer {
     /// Adds an instruction's line, with the label that stands in front of it.
     fn add_line(&self, page: &mut Page, label: Option<usize>, line: &Line) {
         let begin = page.as_bytes().len();
-        if let Some(block) = label.and_then(|label| self.blocks.get(label)) {
+        if let Some(block) = self.labelled(label) {
             say!(page; block.label.as_slice(), ":");
         }
         pad(page, begin, INSTRUCTIONS);
@@ -436,7 +455,7 @@ impl Writer {
 
     /// Adds a label that another one stands behind.
     fn add_label(&self, page: &mut Page, label: Option<usize>) {
-        if let Some(block) = label.and_then(|label| self.blocks.get(label)) {
+        if let Some(block) = self.labelled(label) {
             say!(page; block.label.as_slice(), ":\n");
         }
     }

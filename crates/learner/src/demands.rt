@@ -127,11 +127,8 @@ fn leads_out(
     directory: Option<usize>,
     at: usize,
 ) -> bool {
-    let handle = directory.and_then(|directory| handles.list.get(directory));
-    let (Some(place), Some(path)) = (
-        handle.and_then(|handle| handle.place.as_ref()),
-        place_in(room, tree, made, at),
-    ) else {
+    let (Some(place), Some(path)) = (handles.place_at(directory), place_in(room, tree, made, at))
+    else {
         return path_at(made, at).is_some();
     };
     path_from(place, &path).is_none()
@@ -183,12 +180,11 @@ struct Course<'a> {
 impl<'a> Course<'a> {
     /// Whether the path of a call leads to a name of its directory.
     fn is_in(&self, room: &mut Room, made: &MadeCall, naming: &Naming) -> bool {
-        let directory = naming.first.and_then(|first| self.handles.list.get(first));
         match (
-            directory.and_then(|handle| handle.place.as_ref()),
+            self.handles.place_at(naming.first),
             place_in(room, self.tree, made, 1),
         ) {
-            (Some(directory), Some(place)) => above(&place) == directory.as_slice(),
+            (Some(directory), Some(place)) => above(&place) == directory,
             _ => false,
         }
     }
@@ -197,8 +193,10 @@ impl<'a> Course<'a> {
 impl Demands {
     /// Adds to what is asked of a descriptor.
     fn add(&mut self, handle: Option<usize>, demand: Demand) {
-        if let Some(own) = handle.and_then(|handle| self.of.get_mut(handle)) {
-            *own = own.with(demand);
+        if let Some(handle) = handle {
+            if let Some(own) = self.of.get_mut(handle) {
+                *own = own.with(demand);
+            }
         }
     }
 
@@ -247,7 +245,7 @@ impl Demands {
     /// Hands on what is asked of what an entry makes to what that comes of.
     fn hand_on(&mut self, room: &mut Room, course: &Course<'_>, made: &MadeCall, naming: &Naming) {
         for handle in naming.made..naming.made.saturating_add(naming.count) {
-            let source = course.handles.list.get(handle).and_then(|own| own.source);
+            let source = course.handles.source_of(handle);
             let mut demand = self.at(handle);
             if made.call == Call::Openat {
                 demand.is_ground = demand.lies_in_grant() && course.is_in(room, made, naming);

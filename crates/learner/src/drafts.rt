@@ -125,11 +125,13 @@ impl<'a> Draft<'a> {
     /// Adds a descriptor of a node.
     fn add_place(&self, page: &mut Page, number: u8, place: &[u8]) {
         say!(page; "{number=", number, ", path=\"", place, "\"");
-        let node = self
-            .tree
-            .number_of(place)
-            .and_then(|at| self.tree.nodes.get(at));
-        if node.is_some_and(|node| node.first == Presence::File) {
+        if let Some(
+            Node {
+                first: Presence::File,
+                ..
+            },
+        ) = self.tree.node_at(place)
+        {
             page.bytes(b", flags=[\"read\", \"write\"]");
         }
         page.bytes(b"}");
@@ -141,10 +143,10 @@ impl<'a> Draft<'a> {
             page.bytes(b", ");
         }
         let end = self.end_of(room, program, at);
-        let held = self
-            .programs
-            .get(program)
-            .and_then(|program| program.table.held.get(at));
+        let held = match self.programs.get(program) {
+            Some(program) => program.table.held.get(at),
+            None => None,
+        };
         match (held, end) {
             (Some(held), Some((pair, side))) => {
                 add_end(page, usize::from(held.number), pair, side);
@@ -208,7 +210,7 @@ impl<'a> Draft<'a> {
                     room.push(&mut directories, place);
                 }
             }
-            None if changes.iter().any(|change| change.deed == Deed::Moves) => {
+            None if self.tree.moves_something() => {
                 let place = room.copy(b"/");
                 room.push(&mut directories, place);
             }

@@ -52,7 +52,12 @@ pub(crate) fn program_of(room: &mut Room, entries: &[Entry], process: u32) -> Op
             None => break,
         }
     }
-    room.processes(entries).iter().position(|own| *own == first)
+    for (at, own) in room.processes(entries).iter().enumerate() {
+        if *own == first {
+            return Some(at);
+        }
+    }
+    None
 }
 
 /// The state in which a process of a record is behind an entry.
@@ -128,8 +133,7 @@ impl Entrances {
     /// Leaves out an entrance of a process that is in the mode already.
     fn leave_out(&mut self, process: u32) {
         for at in 0..self.list.len() {
-            let is_it = self.list.get(at).is_some_and(|own| own.process == process);
-            if is_it && at < self.list.len() {
+            if self.list[at].process == process {
                 self.list.remove(at);
                 return;
             }

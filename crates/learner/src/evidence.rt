@@ -1,8 +1,8 @@
 //! What the calls of a record tell of the tree.
 
 use crate::calls::{
-    ROOT, answer_of, creates, fails_with, number_at, path_at, path_place, place_of,
-    removes_directory,
+    ROOT, answer_of, creates, fails_with, number_at, path_at, path_of, path_place, place_given,
+    place_of, removes_directory,
 };
 use crate::places::{above, behind, last_name, place_at};
 use crate::room::Room;
@@ -100,7 +100,7 @@ fn add_link_of(room: &mut Room, tree: &mut Tree, records: &[Vec<Entry>], made: &
     let Some(path) = place_in(room, tree, made, at) else {
         return;
     };
-    if let Some(place) = answer_of(made).and_then(|answer| place_of(made, answer)) {
+    if let Some(place) = place_given(made) {
         if path.as_slice() != place {
             add_link(room, tree, records, &path, place);
         }
@@ -120,9 +120,11 @@ pub(crate) fn add_links(room: &mut Room, tree: &mut Tree, records: &[Vec<Entry>]
 
 /// What a path leads to that leads to something: a directory, if it ends in a slash, `.` or `..`.
 fn kind_of(made: &MadeCall) -> Presence {
-    let path = path_place(made.call).and_then(|at| path_at(made, at));
-    match path.map(last_name) {
-        Some([] | [b'.'] | [b'.', b'.']) => Presence::Directory,
+    let Some(path) = path_of(made) else {
+        return Presence::File;
+    };
+    match last_name(path) {
+        [] | [b'.'] | [b'.', b'.'] => Presence::Directory,
         _ => Presence::File,
     }
 }

@@ -1,6 +1,6 @@
 //! The descriptors of a record's processes, each from the call that gives it to the one that closes it.
 
-use crate::calls::{RecordedEnd, answer_of, end_of, number_at, place_of, second_end};
+use crate::calls::{RecordedEnd, answer_of, end_of, end_through, number_at, place_of, second_end};
 use crate::room::Room;
 use crate::trees::Tree;
 use records::{Entry, Event, MadeCall};
@@ -118,18 +118,59 @@ impl Handles {
         room.push(&mut self.list, handle);
     }
 
+    /// A descriptor, if it is known.
+    pub(crate) fn at(&self, handle: Option<usize>) -> Option<&Handle> {
+        match handle {
+            Some(handle) => self.list.get(handle),
+            None => None,
+        }
+    }
+
+    /// The place of the node that a descriptor is of.
+    pub(crate) fn place_at(&self, handle: Option<usize>) -> Option<&[u8]> {
+        match self.at(handle) {
+            Some(
+                Handle {
+                    place: Some(place),
+                    ..
+                },
+            ) => Some(place.as_slice()),
+            _ => None,
+        }
+    }
+
+    /// Whether a descriptor is a process's.
+    pub(crate) fn is_of(&self, handle: usize, process: u32) -> bool {
+        match self.list.get(handle) {
+            Some(own) => own.process == process,
+            None => false,
+        }
+    }
+
+    /// What a descriptor comes of.
+    pub(crate) fn source_of(&self, handle: usize) -> Option<usize> {
+        match self.list.get(handle) {
+            Some(own) => own.source,
+            None => None,
+        }
+    }
+
     /// The place of a descriptor's node once more.
     fn place_of(&self, room: &mut Room, at: Option<usize>) -> Option<Vec<u8>> {
-        let handle = self.list.get(at?)?;
-        let place = handle.place.as_ref()?;
-        Some(room.copy(place))
+        match self.place_at(at) {
+            Some(place) => Some(room.copy(place)),
+            None => None,
+        }
     }
 
     /// Whether a process had a descriptor of this number.
     fn had(&self, process: u32, number: u32) -> bool {
-        self.list
-            .iter()
-            .any(|own| own.process == process && own.number == number)
+        for own in &self.list {
+            if own.process == process && own.number == number {
+                return true;
+            }
+        }
+        false
     }
 
     /// The descriptor of a number that a call is given. One that isn't known yet is noted: the process began with it, or if it had another of
@@ -193,8 +234,7 @@ impl Handles {
 
     /// Notes that a descriptor is sent.
     fn send(&mut self, room: &mut Room, made: &MadeCall, handle: Option<usize>) {
-        let end = number_at(made, 0).and_then(|number| end_of(made, number));
-        if let (Some(RecordedEnd { pair, side }), Some(handle)) = (end, handle) {
+        if let (Some(RecordedEnd { pair, side }), Some(handle)) = (end_through(made), handle) {
             let sent = Sent {
                 pair,
                 from: side,
@@ -207,7 +247,7 @@ impl Handles {
 
     /// The descriptor that comes by a call.
     fn receive(&mut self, made: &MadeCall) -> Option<usize> {
-        let end = end_of(made, number_at(made, 0)?)?;
+        let end = end_through(made)?;
         for sent in self.sent.iter_mut() {
             if !sent.is_taken && sent.pair == end.pair && sent.from != end.side {
                 sent.is_taken = true;
@@ -252,7 +292,10 @@ impl Handles {
     ) {
         match made.call {
             Call::Open | Call::Openat | Call::Recvfd => {
-                let place = place_of(made, answer).map(|place| tree.resolve(room, b"/", place));
+                let place = match place_of(made, answer) {
+                    Some(place) => Some(tree.resolve(room, b"/", place)),
+                    None => None,
+                };
                 let source = match made.call {
                     Call::Openat => naming.first,
                     Call::Recvfd => self.receive(made),
@@ -286,9 +329,10 @@ impl Handles {
         at: usize,
     ) -> Naming {
         let first = self.named(room, tree, entry, made, 0, at);
-        let second = second_place(made.call).and_then(|place| self.named(
-            room, tree, entry, made, place, at,
-        ));
+        let second = match second_place(made.call) {
+            Some(place) => self.named(room, tree, entry, made, place, at),
+            None => None,
+        };
         let mut naming = Naming {
             first,
             second,

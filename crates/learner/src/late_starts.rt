@@ -79,28 +79,43 @@ fn start_of(programs: &[LastProgram], process: u32) -> Option<usize> {
     None
 }
 
+/// The process that an entry makes, if it makes one.
+fn child_of(entry: &Entry) -> Option<u32> {
+    match &entry.event {
+        Event::Called(made) if made.call == Call::Fork => answer_of(made),
+        _ => None,
+    }
+}
+
 /// Whether an entry is left out: it lies in front of where its process is looked at from, or it makes a process that is looked at from later on.
 fn is_left_out(programs: &[LastProgram], at: usize, entry: &Entry) -> bool {
-    if start_of(programs, entry.process).is_some_and(|begun| at <= begun) {
-        return true;
-    }
-    match &entry.event {
-        Event::Called(made) if made.call == Call::Fork => {
-            answer_of(made).is_some_and(|child| start_of(programs, child).is_some())
+    if let Some(begun) = start_of(programs, entry.process) {
+        if at <= begun {
+            return true;
         }
-        _ => false,
+    }
+    match child_of(entry) {
+        Some(child) => start_of(programs, child).is_some(),
+        None => false,
     }
 }
 
 /// Whether a call that is left out is of a process, or makes it.
 fn is_about(entry: &Entry, process: u32) -> bool {
     match &entry.event {
-        Event::Called(made) => {
-            entry.process == process
-                || (made.call == Call::Fork && answer_of(made) == Some(process))
-        }
+        Event::Called(_) => entry.process == process || child_of(entry) == Some(process),
         Event::Ended | Event::Omitted(_) => false,
     }
+}
+
+/// Whether one of these entries, which are left out, is of a process.
+fn loses_calls(entries: &[Entry], process: u32) -> bool {
+    for entry in entries {
+        if is_about(entry, process) {
+            return true;
+        }
+    }
+    false
 }
 
 /// Tells of each process whose first calls aren't there from which line on it is looked at.
@@ -109,10 +124,10 @@ fn add_starts(page: &mut Page, entries: &[Entry], programs: &[LastProgram]) {
         let Some(begun) = own.begun else {
             continue;
         };
-        let loses = entries[..begun.min(entries.len())]
-            .iter()
-            .any(|entry| is_about(entry, own.process));
-        if let (true, Some(entry)) = (loses, entries.get(begun)) {
+        let Some(entry) = entries.get(begun) else {
+            continue;
+        };
+        if loses_calls(&entries[..begun], own.process) {
             say!(page; "# Process ", own.process, " is here from line ", entry.span.last, " on, where it goes on as another program for the last time.\n");
         }
     }

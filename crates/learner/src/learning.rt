@@ -100,6 +100,12 @@ fn name_of(room: &mut Room, program: usize) -> Vec<u8> {
     }
 }
 
+/// The first process of a place in a record.
+fn process_at(room: &mut Room, entries: &[Entry], program: usize) -> Option<u32> {
+    let processes = room.processes(entries);
+    processes.get(program).copied()
+}
+
 /// Learns the program of a record's first process, of the first processes that have this place in their records.
 pub(crate) fn learn_program(
     room: &mut Room,
@@ -111,29 +117,30 @@ pub(crate) fn learn_program(
     let mut learning = Learning::new(room);
     let mut first = None;
     for (record, entries) in records.iter().enumerate() {
-        let processes = room.processes(entries);
-        let Some(process) = processes.get(program) else {
-            continue;
-        };
-        let messages = messages_of(room, entries);
-        let offsets = offsets_of(room, tree, entries);
-        let table = first_table(room, tree, entries, *process);
-        table.note_places(room, tree);
-        if first.is_none() {
-            first = Some(table.copy(room));
+        if let Some(process) = process_at(room, entries, program) {
+            let messages = messages_of(room, entries);
+            let offsets = offsets_of(room, tree, entries);
+            let table = first_table(room, tree, entries, process);
+            table.note_places(room, tree);
+            if first.is_none() {
+                first = Some(table.copy(room));
+            }
+            let course = Course {
+                entries,
+                messages: &messages,
+                offsets: &offsets,
+                tree,
+                level,
+                program,
+                record,
+            };
+            learning.run(room, &course, process, table);
         }
-        let course = Course {
-            entries,
-            messages: &messages,
-            offsets: &offsets,
-            tree,
-            level,
-            program,
-            record,
-        };
-        learning.run(room, &course, *process, table);
     }
-    first.map(|table| (learning, table))
+    match first {
+        Some(table) => Some((learning, table)),
+        None => None,
+    }
 }
 
 impl Lessons {

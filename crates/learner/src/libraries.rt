@@ -49,9 +49,9 @@ const PLACES: [(&[u8], Library); 28] = [
 
 /// The library that opens what stands at a place, if one does.
 pub(crate) fn library_of(place: &[u8]) -> Option<Library> {
-    for (own, library) in PLACES {
-        if path_from(own, place).is_some() {
-            return Some(library);
+    for known in &PLACES {
+        if path_from(known.0, place).is_some() {
+            return Some(known.1);
         }
     }
     None

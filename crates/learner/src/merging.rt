@@ -2,7 +2,7 @@
 
 use crate::assembly::is_writable;
 use crate::calls::{flags_of, path_place, removes_directory};
-use crate::places::{above, behind};
+use crate::places::{above, behind, lies_beneath};
 use crate::remade::entry_copy;
 use crate::room::Room;
 use records::{Binding, Entry, Event, MadeCall, Operand, Outcome, add_flags};
@@ -111,7 +111,12 @@ impl Names {
 
     /// Whether something is used that lies beneath a place.
     fn has_beneath(&self, place: &[u8]) -> bool {
-        self.list.iter().any(|name| behind(place, &name.place).is_some_and(|rest| !rest.is_empty()))
+        for name in &self.list {
+            if lies_beneath(place, &name.place) {
+                return true;
+            }
+        }
+        false
     }
 
     /// Whether a name may be one with others: it is a place that a task can have, and nothing is used beneath it.

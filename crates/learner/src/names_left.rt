@@ -28,9 +28,19 @@ struct LastUses {
 }
 
 impl LastUses {
+    /// Whether there is a use of a name.
+    fn has(&self, name: &[u8]) -> bool {
+        for own in &self.list {
+            if own.name.as_slice() == name {
+                return true;
+            }
+        }
+        false
+    }
+
     /// Adds a use, if none behind it is of the same name.
     fn add(&mut self, room: &mut Room, entry: &Entry, name: Vec<u8>, library: Option<Library>) {
-        if !self.list.iter().any(|own| own.name == name) {
+        if !self.has(&name) {
             let last = LastUse {
                 line: entry.span.last,
                 process: entry.process,
@@ -60,6 +70,32 @@ impl LastUses {
     }
 }
 
+impl LastUses {
+    /// Adds the uses of a record's entries.
+    fn add_all(&mut self, room: &mut Room, tree: &Tree, entries: &[Entry]) {
+        for at in (0..entries.len()).rev() {
+            self.add_entry(room, tree, &entries[at]);
+        }
+    }
+
+    /// Adds the lines of all, the first use first.
+    fn add_lines(&self, page: &mut Page) {
+        page.bytes(b"LINE PROCESS LEFT  used for the last time\n");
+        for left in (0..self.list.len()).rev() {
+            add_line(page, left, &self.list[left]);
+        }
+    }
+}
+
+/// Adds the line of a use, behind which so many names are left.
+fn add_line(page: &mut Page, left: usize, last: &LastUse) {
+    say!(page; last.line, " ", last.process, " ", left, "  ", last.name.as_slice());
+    if let Some(library) = last.library {
+        say!(page; " (", library.remedy(), ")");
+    }
+    page.bytes(b"\n");
+}
+
 /// Adds the lines of the first record behind which fewer global names are left, each with the name, or the call by one, that is used there
 /// for the last time.
 pub fn add_names_left(
@@ -70,19 +106,10 @@ pub fn add_names_left(
     let mut room = Room::new(alloc);
     let tree = tree_of(&mut room, records, None);
     let mut uses = LastUses { list: room.list() };
-    for entries in records.iter().take(1) {
-        for entry in entries.iter().rev() {
-            uses.add_entry(&mut room, &tree, entry);
-        }
+    if let Some(first) = records.first() {
+        uses.add_all(&mut room, &tree, first);
     }
-    page.bytes(b"LINE PROCESS LEFT  used for the last time\n");
-    for (left, last) in uses.list.iter().enumerate().rev() {
-        say!(page; last.line, " ", last.process, " ", left, "  ", last.name.as_slice());
-        if let Some(library) = last.library {
-            say!(page; " (", library.remedy(), ")");
-        }
-        page.bytes(b"\n");
-    }
+    uses.add_lines(page);
     if room.is_short() {
         return Err(Memory);
     }

@@ -37,6 +37,14 @@ pub(crate) fn behind<'a>(place: &[u8], beneath: &'a [u8]) -> Option<&'a [u8]> {
     }
 }
 
+/// Whether a place lies beneath the first one.
+pub(crate) fn lies_beneath(place: &[u8], beneath: &[u8]) -> bool {
+    match behind(place, beneath) {
+        Some(rest) => !rest.is_empty(),
+        None => false,
+    }
+}
+
 /// The path from a directory to a place beneath it, or nothing where it is the directory itself.
 pub(crate) fn path_from<'a>(directory: &[u8], place: &'a [u8]) -> Option<&'a [u8]> {
     let whole = if directory == b"/".as_slice() {

@@ -105,6 +105,15 @@ fn add_limit(page: &mut Page, begin: usize, demand: Demand) {
     }
 }
 
+/// Adds a line of what isn't in the task.
+fn add_note(page: &mut Page, note: &Told) {
+    say!(page; "#  line ", note.line);
+    if note.count > 1 {
+        say!(page; ", ", note.count, " times");
+    }
+    say!(page; ": ", note.text.as_slice(), "\n");
+}
+
 impl<'a> Words<'a> {
     /// Adds a directory that is to be opened in front of the mode, and what is done beneath it.
     fn add_ground(&self, room: &mut Room, page: &mut Page, ground: &Ground) {
@@ -160,13 +169,20 @@ impl<'a> Words<'a> {
         for ground in &self.policy.grounds {
             self.add_ground(room, page, ground);
         }
-        for (account, entries) in self.accounts.iter().zip(self.records.iter()) {
+        for (at, account) in self.accounts.iter().enumerate() {
             for limit in &account.demands.kept {
                 self.add_kept(page, account, limit);
             }
-            for limit in &account.demands.sent {
-                self.add_sent(page, account, entries, limit);
+            if let Some(entries) = self.records.get(at) {
+                self.add_all_sent(page, account, entries);
             }
+        }
+    }
+
+    /// Adds the limits of what is sent.
+    fn add_all_sent(&self, page: &mut Page, account: &Account, entries: &[Entry]) {
+        for limit in &account.demands.sent {
+            self.add_sent(page, account, entries, limit);
         }
     }
 
@@ -245,18 +261,16 @@ impl<'a> Words<'a> {
     /// Adds what is done in the mode that isn't in the task.
     fn add_behind(&self, room: &mut Room, page: &mut Page) {
         let mut notes = room.list();
-        for (account, entries) in self.accounts.iter().zip(self.records.iter()) {
-            self.note_record(room, &mut notes, account, entries);
+        for (at, account) in self.accounts.iter().enumerate() {
+            if let Some(entries) = self.records.get(at) {
+                self.note_record(room, &mut notes, account, entries);
+            }
         }
         if !notes.is_empty() {
             page.bytes(b"# Behind it, and not in this task (rights are to be added above):\n");
         }
         for note in &notes {
-            say!(page; "#  line ", note.line);
-            if note.count > 1 {
-                say!(page; ", ", note.count, " times");
-            }
-            say!(page; ": ", note.text.as_slice(), "\n");
+            add_note(page, note);
         }
     }
 

@@ -116,9 +116,11 @@ fn all_remade(
     records: &[Vec<Entry>],
 ) -> Vec<Vec<Entry>> {
     let mut all = room.list();
-    for (account, entries) in accounts.iter().zip(records.iter()) {
-        let remade = remade_of(room, tree, policy, account, entries);
-        room.push(&mut all, remade);
+    for (at, account) in accounts.iter().enumerate() {
+        if let Some(entries) = records.get(at) {
+            let remade = remade_of(room, tree, policy, account, entries);
+            room.push(&mut all, remade);
+        }
     }
     all
 }
@@ -147,6 +149,25 @@ fn planned_of(
     Ok(Planned { front, name, back })
 }
 
+/// What a policy's remade records teach, behind what is told of it and its words.
+fn plan_in_words(
+    room: &mut Room,
+    remade: &[Vec<Entry>],
+    told: &Page,
+    line: u32,
+    program: usize,
+    words: &Words<'_>,
+) -> Result<Planned, LearnFault> {
+    let learnt = learnt_of(room, remade, Some(words.policy))?;
+    let mut page = Page::new(room.alloc());
+    add_counts(&mut page, words.records);
+    page.page(told);
+    learnt.add_head(&mut page);
+    words.add(room, &mut page, line);
+    let draft = learnt.draft(room, Some(words.policy));
+    planned_of(room, page, draft, program)
+}
+
 /// The plan of records whose entries are in order, and are changed as is told.
 fn plan_ordered(
     room: &mut Room,
@@ -164,19 +185,14 @@ fn plan_ordered(
     let accounts = accounts_of(room, &tree, records, all);
     let policy = Policy::new(room, &tree, records, &accounts);
     let remade = all_remade(room, &tree, &policy, &accounts, records);
-    let learnt = learnt_of(room, &remade, Some(&policy))?;
-    let mut page = Page::new(room.alloc());
-    add_counts(&mut page, records);
-    page.page(told);
-    learnt.add_head(&mut page);
     let words = Words {
         tree: &tree,
         policy: &policy,
         accounts: &accounts,
         records,
     };
-    words.add(room, &mut page, line);
-    planned_of(room, page, learnt.draft(room, Some(&policy)), start.program)
+    let program = start.program;
+    plan_in_words(room, &remade, told, line, program, &words)
 }
 
 /// The task that recorded runs of a program show, with the mode behind a line of the first one, with the directories, limits and grants that

@@ -86,8 +86,10 @@ impl Account {
         if self.entrances.is_in_mode(at) {
             return way_in_mode(room, tree, &self.handles, made, &naming);
         }
-        let directory = naming.first.map(|first| self.demands.at(first));
-        let is_known = directory.is_some_and(|directory| directory.lies_in_grant());
+        let is_known = match naming.first {
+            Some(first) => self.demands.at(first).lies_in_grant(),
+            None => false,
+        };
         if is_known && !goes_anywhere(room, tree, &self.handles, made, &naming) {
             return Way::Kept;
         }
@@ -156,14 +158,18 @@ impl Policy {
         word
     }
 
+    /// Whether a directory is at or beneath a place.
+    fn stands_beneath(&self, place: &[u8], ground: usize) -> bool {
+        match self.grounds.get(ground) {
+            Some(ground) => path_from(place, &ground.place).is_some(),
+            None => false,
+        }
+    }
+
     /// Removes the directories beneath a place.
     fn remove_beneath(&mut self, place: &[u8]) {
         for at in (0..self.grounds.len()).rev() {
-            let is_beneath = self
-                .grounds
-                .get(at)
-                .is_some_and(|ground| path_from(place, &ground.place).is_some());
-            if is_beneath && at < self.grounds.len() {
+            if self.stands_beneath(place, at) && at < self.grounds.len() {
                 self.grounds.remove(at);
             }
         }
@@ -240,12 +246,17 @@ impl Policy {
         }
     }
 
+    /// The directory that a place lies at or beneath.
+    fn ground_over(&mut self, place: &[u8]) -> Option<&mut Ground> {
+        match self.ground_of(place) {
+            Some(at) => self.grounds.get_mut(at),
+            None => None,
+        }
+    }
+
     /// Notes what is asked of the directory of a place.
     fn ask(&mut self, place: &[u8], demand: Demand) {
-        if let Some(ground) = self
-            .ground_of(place)
-            .and_then(|at| self.grounds.get_mut(at))
-        {
+        if let Some(ground) = self.ground_over(place) {
             ground.demand = ground.demand.with(demand);
             ground.rights = ground.rights.union(demand.rights);
         }
@@ -269,10 +280,7 @@ impl Policy {
             },
         ) = handle
         {
-            if let Some(ground) = self
-                .ground_of(place)
-                .and_then(|at| self.grounds.get_mut(at))
-            {
+            if let Some(ground) = self.ground_over(place) {
                 ground.rights = ground.rights.union(demand.rights);
             }
         }
@@ -315,11 +323,15 @@ impl Policy {
                 policy.add_way(room, tree, &change.target, true);
             }
         }
-        for (entries, account) in records.iter().zip(accounts.iter()) {
-            policy.add_record(room, tree, entries, account);
+        for (at, account) in accounts.iter().enumerate() {
+            if let Some(entries) = records.get(at) {
+                policy.add_record(room, tree, entries, account);
+            }
         }
-        for (entries, account) in records.iter().zip(accounts.iter()) {
-            policy.ask_record(room, tree, entries, account);
+        for (at, account) in accounts.iter().enumerate() {
+            if let Some(entries) = records.get(at) {
+                policy.ask_record(room, tree, entries, account);
+            }
         }
         policy
     }

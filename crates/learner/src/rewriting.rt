@@ -48,7 +48,10 @@ fn number_from(first: u32, ground: usize) -> u32 {
 impl<'a> Rewriting<'a> {
     /// Whether the plan hasn't a descriptor.
     fn is_left_out(&self, handle: Option<usize>) -> bool {
-        handle.is_some_and(|handle| self.left_out.get(handle).copied() == Some(true))
+        match handle {
+            Some(handle) => self.left_out.get(handle) == Some(&true),
+            None => false,
+        }
     }
 
     /// Notes that the plan hasn't a descriptor.
@@ -235,12 +238,10 @@ impl<'a> Rewriting<'a> {
         let account = self.account;
         let policy = self.policy;
         for limit in &account.demands.kept {
-            let is_own = account
-                .handles
-                .list
-                .get(limit.handle)
-                .is_some_and(|handle| handle.process == process);
-            if limit.entry == at && is_own && !self.is_left_out(Some(limit.handle)) {
+            if limit.entry == at
+                && account.handles.is_of(limit.handle, process)
+                && !self.is_left_out(Some(limit.handle))
+            {
                 self.add_limit(room, process, limit);
             }
         }
@@ -270,14 +271,10 @@ impl<'a> Rewriting<'a> {
 
     /// Notes of what a fork makes that the plan hasn't the copies of what it hasn't.
     fn leave_out_copies(&mut self, at: usize) {
-        let naming = self.account.handles.naming(at);
+        let account = self.account;
+        let naming = account.handles.naming(at);
         for handle in naming.made..naming.made.saturating_add(naming.count) {
-            let source = self
-                .account
-                .handles
-                .list
-                .get(handle)
-                .and_then(|own| own.source);
+            let source = account.handles.source_of(handle);
             if self.is_left_out(source) {
                 self.leave_out(handle);
             }

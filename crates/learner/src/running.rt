@@ -3,7 +3,8 @@
 use crate::assembly::{assembly_of, subject_of};
 use crate::automata::{Arrival, Automaton, Step};
 use crate::calls::{
-    answer_of, end_of, makes_descriptor, number_at, path_at, path_place, place_of, second_end,
+    answer_of, end_of, makes_descriptor, number_at, path_at, path_place, place_given, place_of,
+    second_end,
 };
 use crate::evidence::place_in;
 use crate::needs::{Ends, Need, add_connection, add_need};
@@ -90,7 +91,11 @@ fn holding_of(room: &mut Room, tree: &Tree, made: &MadeCall, answer: u32) -> Hol
             }
         };
     }
-    match path_place(made.call).and_then(|at| place_in(room, tree, made, at)) {
+    let place = match path_place(made.call) {
+        Some(at) => place_in(room, tree, made, at),
+        None => None,
+    };
+    match place {
         Some(place) => Holding::Node(place),
         None => Holding::World { first: 0 },
     }
@@ -98,10 +103,10 @@ fn holding_of(room: &mut Room, tree: &Tree, made: &MadeCall, answer: u32) -> Hol
 
 /// The place of what a call opens, unless its path says that.
 fn opened(room: &mut Room, made: &MadeCall) -> Vec<u8> {
-    let place = answer_of(made)
-        .filter(|_| makes_descriptor(made.call) && made.call != Call::Dup)
-        .and_then(|answer| place_of(made, answer));
-    match place {
+    if !makes_descriptor(made.call) || made.call == Call::Dup {
+        return room.list();
+    }
+    match place_given(made) {
         Some(place) if path_at(made, 0) != Some(place) => room.copy(place),
         _ => room.list(),
     }
@@ -148,8 +153,7 @@ impl Running {
 
     /// What a descriptor is of that comes by a message: of a connection, if it is an end that comes from the world.
     fn received(&self, room: &mut Room, tree: &Tree, made: &MadeCall, answer: u32) -> Holding {
-        let through = number_at(made, 0).and_then(|number| self.table.of(number));
-        match (through.map(|held| &held.holding), end_of(made, answer)) {
+        match (self.table.through(made), end_of(made, answer)) {
             (Some(Holding::World { first }), Some(end)) if end.pair > 0 => Holding::Connection {
                 first: *first,
                 pair: end.pair,
@@ -303,8 +307,7 @@ impl Learning {
     /// Notes what a call asks of the world.
     fn note_need(&mut self, room: &mut Room, course: &Course<'_>, table: &Table, made: &MadeCall) {
         let program = course.program;
-        let held = number_at(made, 0).and_then(|number| table.of(number));
-        let ends = match held.map(|held| &held.holding) {
+        let ends = match table.through(made) {
             Some(Holding::World { first }) => Ends::Own {
                 program,
                 first: *first,
@@ -330,10 +333,7 @@ impl Learning {
         if made.call != Call::Recvfd {
             return;
         }
-        if let Some(Holding::Connection { first, .. }) = table
-            .of(answer)
-            .map(|held| &held.holding)
-        {
+        if let Some(Holding::Connection { first, .. }) = table.holding_of(answer) {
             let ends = Ends::Connections {
                 program: course.program,
                 first: *first,

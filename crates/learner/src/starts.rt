@@ -79,7 +79,11 @@ impl Beginning {
 
     /// Notes the descriptors of a call: what it makes, and what it names.
     fn add_call(&mut self, room: &mut Room, tree: &Tree, made: &MadeCall) {
-        let answer = answer_of(made).filter(|_| makes_descriptor(made.call));
+        let answer = if makes_descriptor(made.call) {
+            answer_of(made)
+        } else {
+            None
+        };
         for binding in &made.bindings {
             let number = number_of(binding);
             if made.call == Call::Socketpair || Some(number) == answer {

@@ -1,7 +1,9 @@
 //! What a process holds by the calls of a record, with the numbers that its descriptors have in the task.
 
+use crate::calls::number_at;
 use crate::room::Room;
 use crate::trees::{Presence, Tree};
+use records::MadeCall;
 use rights::Side;
 use rights::limits::MAX_DESCRIPTORS;
 use texts::{Page, Say, parts_of, say};
@@ -111,6 +113,22 @@ impl Table {
         None
     }
 
+    /// What stands for a number of the record is of this.
+    pub(crate) fn holding_of(&self, real: u32) -> Option<&Holding> {
+        match self.of(real) {
+            Some(held) => Some(&held.holding),
+            None => None,
+        }
+    }
+
+    /// What a call goes through is of this.
+    pub(crate) fn through(&self, made: &MadeCall) -> Option<&Holding> {
+        match number_at(made, 0) {
+            Some(number) => self.holding_of(number),
+            None => None,
+        }
+    }
+
     /// The lowest number that is free.
     pub(crate) fn lowest_free(&self) -> Option<u8> {
         for number in 0..MAX_DESCRIPTORS as u8 {
@@ -205,8 +223,10 @@ impl Table {
     /// The least number at which an end of a pair stands.
     fn first_of(&self, pair: u32) -> u8 {
         for number in 0..MAX_DESCRIPTORS as u8 {
-            if self.at(number).and_then(|held| held.holding.pair()) == Some(pair) {
-                return number;
+            if let Some(held) = self.at(number) {
+                if held.holding.pair() == Some(pair) {
+                    return number;
+                }
             }
         }
         0

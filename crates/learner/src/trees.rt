@@ -1,7 +1,7 @@
 //! The tree that a record's calls tell of.
 
 use crate::assembly::is_writable;
-use crate::places::{above, behind, place_at};
+use crate::places::{above, behind, lies_beneath, place_at};
 use crate::room::Room;
 
 /// What stands at a place.
@@ -94,6 +94,26 @@ impl Tree {
         None
     }
 
+    /// The node of a place.
+    pub(crate) fn node_at(&self, place: &[u8]) -> Option<&Node> {
+        for node in &self.nodes {
+            if node.place.as_slice() == place {
+                return Some(node);
+            }
+        }
+        None
+    }
+
+    /// Whether the world moves something.
+    pub(crate) fn moves_something(&self) -> bool {
+        for change in &self.changes {
+            if change.deed == Deed::Moves {
+                return true;
+            }
+        }
+        false
+    }
+
     /// Begins anew with what stood there before the first call.
     pub(crate) fn rewind(&mut self) {
         for node in self.nodes.iter_mut() {
@@ -106,24 +126,25 @@ impl Tree {
         if place == b"/".as_slice() {
             return true;
         }
-        let node = self.number_of(place).and_then(|at| self.nodes.get(at));
-        node.is_some_and(|node| node.first == Presence::Directory)
+        match self.node_at(place) {
+            Some(node) => node.first == Presence::Directory,
+            None => false,
+        }
     }
 
     /// What is known to stand at a place.
     fn at(&self, place: &[u8]) -> Option<Presence> {
-        let number = self.number_of(place)?;
-        Some(self.nodes.get(number)?.now)
+        match self.node_at(place) {
+            Some(node) => Some(node.now),
+            None => None,
+        }
     }
 
     /// Whether a directory above a place wasn't there before the first call.
     fn begins_cut_off(&self, place: &[u8]) -> bool {
         for at in 1..place.len() {
             if place[at] == b'/' {
-                if let Some(node) = self
-                    .number_of(&place[..at])
-                    .and_then(|at| self.nodes.get(at))
-                {
+                if let Some(node) = self.node_at(&place[..at]) {
                     if node.first == Presence::Absent {
                         return true;
                     }
@@ -295,8 +316,7 @@ impl Tree {
     /// Whether something is known to stand beneath a place.
     pub(crate) fn holds_something(&self, place: &[u8]) -> bool {
         for node in &self.nodes {
-            let is_beneath = behind(place, &node.place).is_some_and(|rest| !rest.is_empty());
-            if is_beneath && node.now != Presence::Absent {
+            if lies_beneath(place, &node.place) && node.now != Presence::Absent {
                 return true;
             }
         }
@@ -305,7 +325,7 @@ impl Tree {
 
     /// How many bytes of a file were read, one after another.
     pub(crate) fn length_of(&self, place: &[u8]) -> usize {
-        match self.number_of(place).and_then(|at| self.nodes.get(at)) {
+        match self.node_at(place) {
             Some(node) => node.length,
             None => 0,
         }

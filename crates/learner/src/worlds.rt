@@ -73,9 +73,23 @@ fn add_talking<S: Say>(page: &mut Page, name: &str, listener: usize, said: S) {
     say!(page; " else talk", listener, "\n        jmp talk", listener, "\n");
 }
 
-/// Adds what a process does that has a connection, by what is asked of it: in the end it halts.
-fn add_talk(page: &mut Page, listener: usize, number: usize, need: &Need) {
-    say!(page; "talk", listener, ":  in r6\n");
+/// Adds that a process which has a connection closes its copies of the ends that are to end.
+fn add_closing(page: &mut Page, ends: &[WorldEnd], listener: usize) {
+    for end in ends {
+        if let Some(Need { closes: true, .. }) = &end.need {
+            let number = end.number;
+            say!(page; "close ", number, " else past", listener, "_", number, "\n");
+            say!(page; "past", listener, "_", number, ": ");
+        }
+    }
+}
+
+/// Adds what a process does that has a connection, by what is asked of it: it closes its copies of the ends that are to end, and in the end
+/// it halts.
+fn add_talk(page: &mut Page, ends: &[WorldEnd], listener: usize, number: usize, need: &Need) {
+    say!(page; "talk", listener, ":  ");
+    add_closing(page, ends, listener);
+    page.bytes(b"in r6\n");
     if need.gives {
         say!(page; "        jeq r6 0 give", listener, "\n");
     }
@@ -96,7 +110,7 @@ fn add_talks(page: &mut Page, ends: &[WorldEnd], number: usize) {
     let mut is_any = false;
     for end in ends {
         if let Some(need) = &end.connections {
-            add_talk(page, end.number, number, need);
+            add_talk(page, ends, end.number, number, need);
             is_any = true;
         }
     }

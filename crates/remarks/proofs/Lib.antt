@@ -1,3 +1,5 @@
 pub mod Lists
 pub mod Steps
 mod Rows
+pub mod BeyondRows
+mod UnneededRows

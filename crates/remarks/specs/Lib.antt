@@ -5,3 +5,5 @@ pub mod TaskRemarks
 pub mod Warnings
 pub mod Uses
 pub mod Marked
+pub mod Beyond
+pub mod Unneeded

@@ -10,7 +10,12 @@ use Rattle.remarks.specs.declared.warnings.Difference.TheVariants as code
 use Rattle.remarks.specs.declared.looks.Looks.{Looks}
 use Rattle.remarks.specs.declared.looks.Look.{Look as LookCode}
 use Rattle.remarks.specs.declared.warnings.Warnings.{Warnings}
+use Rattle.remarks.specs.declared.policies.TaskRemark.{TaskRemark as TaskRemarkCode}
+use Rattle.remarks.specs.declared.policies.TaskRemark.TheVariants as remarked
 use Rattle.remarks.specs.declared.reaching.Uses.{Uses as UsesCode}
+use Rattle.remarks.specs.TaskRemarks.{TaskRemark, Alone, Boundless}
+use Rattle.rights.specs.Views.{side_seen}
+use Rattle.task.specs.Views.{grant_of}
 use Rattle.remarks.specs.Uses.{Uses}
 
 abbrev pub bounds_of : List (Option BoundCode) → List (Option Bound)
@@ -43,3 +48,7 @@ warned_of w = record {
 
 abbrev pub uses_seen : UsesCode → Uses
 uses_seen u = record { rights = u.rights.0; commands = u.commands.0 }
+
+abbrev pub task_remark_of : TaskRemarkCode → TaskRemark
+task_remark_of (remarked.Alone pair side) = Alone pair (side_seen side)
+task_remark_of (remarked.Boundless grant) = Boundless (grant_of grant.now).name

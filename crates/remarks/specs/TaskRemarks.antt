@@ -1,7 +1,8 @@
 -- What is remarked on a task's first processes and its policy. (own)
-use Rattle.std.specs.Prelude.{◌&&◌, ◌||◌, ◌==◌, not, Bool, true, false, List, Option, Some, filter}
+use Rattle.std.specs.Prelude.{◌&&◌, ◌||◌, ◌==◌, ◌++◌, not, Bool, true, false, List, [], Option, Some, filter, map}
 use Rattle.std.specs.List.{list_all, list_any, range_with_len, slice_get}
 use Rattle.std.specs.Str.{bytes_eq}
+use Rattle.file_tree.specs.Places.{same_place}
 use Rattle.rights.specs.Limits.{most_pairs}
 use Rattle.rights.specs.OperationLists.{lists, same_operation}
 use Rattle.rights.specs.Operations.{Operation, Look}
@@ -12,7 +13,7 @@ use Rattle.certificate.specs.Bounds.{Bound, Certificate, Target, In_grant, Any_n
 use Rattle.instruction_set.specs.Programs.{Instruction, Invoke}
 use Rattle.rules.specs.Slots.{may_be_on}
 use Rattle.rules.specs.Uses.{Use, uses}
-use Rattle.task.specs.Plans.{FirstDescriptor, FirstObject, On_end, On_node, NamedProgram, Start}
+use Rattle.task.specs.Plans.{FirstDescriptor, FirstObject, On_end, On_node, Grant, NamedProgram, Plan, Start}
 use Rattle.remarks.specs.Remarks.{holds_there}
 use Rattle.remarks.specs.Ways.{points}
 
@@ -55,3 +56,19 @@ call_does grant operation _ _ = false
 abbrev pub program_does : Certificate → Name → Operation → NamedProgram → Bool
 program_does c grant operation p =
     list_any (λ point. holds_there (call_does grant operation (bound_at c p.name point)) (slice_get p.code point)) (points p.code)
+
+-- ## What is remarked of a task
+-- some process has this side of a pair, and none the other; a grant holds the whole tree
+pub data TaskRemark : Type 0 where
+  Alone : PairNumber → SideNumber → TaskRemark
+  Boundless : Name → TaskRemark
+
+abbrev pub lone_ends : List Start → SideNumber → List TaskRemark
+lone_ends starts side = map (λ pair. Alone pair side) (lone_sides starts side)
+
+abbrev pub boundless : List Grant → List TaskRemark
+boundless grants = map (λ (g : Grant). Boundless g.name) (filter (λ (g : Grant). same_place g.path []) grants)
+
+-- all of them: the pairs of which processes have the first side alone, those with the second, and the grants
+abbrev pub task_remarks : Plan → List TaskRemark
+task_remarks plan = lone_ends plan.starts 0 ++ (lone_ends plan.starts 1 ++ boundless plan.grants)

@@ -206,7 +206,7 @@ pub record Warned : Type 0 where
   pub numbers : List DescriptorNumber
   pub directories : List DescriptorNumber
 
-abbrev pub warned_at : Plan → Name → List Instruction → List (Option Bound) → Bool → ℕ → Warned
+unfoldable pub warned_at : Plan → Name → List Instruction → List (Option Bound) → Bool → ℕ → Warned
 warned_at plan program code bounds marked point = record {
   differences = filter (λ d. differs_at plan code bounds d point) differences;
   failed_close = is_there code (goes_on_closing (calls_ahead code)) point;

@@ -2,6 +2,7 @@
 //! needed to believe a yes.
 #![tactic(auto)]
 
+pub mod beyond;
 mod bounded;
 pub mod directories;
 mod looks;
@@ -9,9 +10,11 @@ mod marked;
 pub mod policies;
 pub mod reaching;
 pub mod remarks;
+pub mod unneeded;
 pub mod warnings;
 mod ways;
 
+pub use beyond::{beyond_at_all, points_beyond, rights_beyond, unlisted_rights};
 pub use directories::directories_at_start;
 pub use policies::{TaskRemark, any_program_does, remarks_on_task};
 pub use reaching::{Uses, uses_of};

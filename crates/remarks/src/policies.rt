@@ -1,17 +1,18 @@
 //! Remarks on a task's first processes and its policy, as values.
 
-ghost use Rattle.std.specs.Prelude.{◌≡◌, ◌&&◌, IfOk, length, map, not, option_map};
+ghost use Rattle.std.specs.Prelude.{◌≡◌, ◌&&◌, ◌++◌, IfOk, OnOk, length, map, not, option_map};
 ghost use Rattle.std.specs.List.{list_any, slice_get};
 ghost use Rattle.certificate.specs.Bounds.{bound_at};
 ghost use Rattle.remarks.specs.Remarks.{holds_there};
 ghost use Rattle.certificate.specs.Views.{bound_of, target_of};
 ghost use Rattle.instruction_set.specs.Views.{instruction_of};
-ghost use Rattle.remarks.specs.TaskRemarks.{lone_sides, call_does, is_alone, is_side, may_be_in, program_does, starts_with, use_does};
+ghost use Rattle.remarks.specs.RemarkViews.{task_remark_of};
+ghost use Rattle.remarks.specs.TaskRemarks.{Alone, boundless, call_does, is_alone, is_side, lone_ends, lone_sides, may_be_in, program_does, starts_with, task_remarks, use_does};
 ghost use Rattle.rights.specs.OperationLists.{lists, same_operation};
 ghost use Rattle.rights.specs.Operations.{Look};
 ghost use Rattle.rights.specs.Sets.{is_within, lookup_right};
 ghost use Rattle.rights.specs.Views.{operation_of, side_seen};
-ghost use Rattle.task.specs.Views.{first_descriptor_of, first_object_of, program_of, programs_of, start_of, starts_of};
+ghost use Rattle.task.specs.Views.{first_descriptor_of, first_object_of, program_of, grants_of, programs_of, start_of, starts_of};
 ghost use Rattle.transfer.specs.Views.{operation_list};
 
 use crate::ways::count;
@@ -181,31 +182,60 @@ pub fn any_program_does(cert: &Cert, grant: &[u8], operation: Op, programs: &[Na
     }
 }
 
-/// Adds the initial pairs of which processes have this side alone.
-fn add_alone(
-    alloc: Global,
-    list: &mut Vec<TaskRemark<'_>>,
-    task: &Task,
-    side: Side,
-) -> Result<(), AllocError> {
-    for pair in &lone_sides(alloc, task.starts(), side)? {
+/// Adds initial pairs of which processes have this side alone.
+fn add_pairs(list: &mut Vec<TaskRemark<'_>>, pairs: &[u8], side: Side) -> Result<(), AllocError>
+    ensures { OnOk result (map task_remark_of list.new.items ≡ map task_remark_of list.old.items ++ map (λ pair. Alone pair (side_seen side)) pairs.now) }
+{
+    for pair in pairs {
         list.push(TaskRemark::Alone { pair: *pair, side })?;
     }
     Ok(())
 }
 
-/// The remarks on a task.
-pub fn remarks_on_task<'a>(
+/// Adds all of them.
+fn add_alone(
     alloc: Global,
-    task: &'a Task,
-) -> Result<Vec<TaskRemark<'a>>, AllocError> {
-    let mut list = Vec::new(alloc);
-    add_alone(alloc, &mut list, task, Side::A)?;
-    add_alone(alloc, &mut list, task, Side::B)?;
-    for grant in task.grants() {
+    list: &mut Vec<TaskRemark<'_>>,
+    starts: &[Start],
+    side: Side,
+) -> Result<(), AllocError>
+    ensures { OnOk result (map task_remark_of list.new.items ≡ map task_remark_of list.old.items ++ lone_ends (starts_of starts.now) (side_seen side)) }
+{
+    let pairs = lone_sides(alloc, starts, side)?;
+    add_pairs(list, &pairs, side)
+}
+
+/// Adds the grants that hold the whole tree.
+fn add_boundless<'a>(list: &mut Vec<TaskRemark<'a>>, grants: &'a [Grant]) -> Result<(), AllocError>
+    ensures { OnOk result (map task_remark_of list.new.items ≡ map task_remark_of list.old.items ++ boundless (grants_of grants.now)) }
+{
+    for grant in grants {
         if grant.path.is_root() {
             list.push(TaskRemark::Boundless { grant })?;
         }
     }
+    Ok(())
+}
+
+/// The remarks on first processes and grants.
+fn remarks_on_both<'a>(
+    alloc: Global,
+    starts: &[Start],
+    grants: &'a [Grant],
+) -> Result<Vec<TaskRemark<'a>>, AllocError>
+    ensures { IfOk result (λ found. map task_remark_of found.items
+        ≡ lone_ends (starts_of starts.now) 0 ++ (lone_ends (starts_of starts.now) 1 ++ boundless (grants_of grants.now))) }
+{
+    let mut list = Vec::new(alloc);
+    add_alone(alloc, &mut list, starts, Side::A)?;
+    add_alone(alloc, &mut list, starts, Side::B)?;
+    add_boundless(&mut list, grants)?;
     Ok(list)
+}
+
+/// The remarks on a task: of which initial pairs processes have one side alone, and which grants hold the whole tree. (own)
+pub fn remarks_on_task<'a>(alloc: Global, task: &'a Task) -> Result<Vec<TaskRemark<'a>>, AllocError>
+    ensures { IfOk result (λ found. map task_remark_of found.items ≡ task_remarks task.now) }
+{
+    remarks_on_both(alloc, task.starts(), task.grants())
 }

@@ -174,9 +174,11 @@ impl<'a> Remarks<'a> {
 
     /// Remarks the same of a marked program, which is bounded outside the mode alone.
     fn add_unsettled_marked(&mut self) -> Result<(), AllocError> {
-        let from = self.bounded.skipping_marked(self.alloc)?;
-        let points = self.bounded.unsettled_marked(self.alloc)?;
-        self.add(Remark::Unsettled { from }, points)
+        let ways = self.bounded.mixed_ways(self.alloc)?;
+        let remark = Remark::Unsettled {
+            from: ways.skipping,
+        };
+        self.add(remark, ways.unsettled)
     }
 
     /// Remarks to what a number could be limited at the points in the mode that have it newly, if that is less than it has. Nothing is

@@ -232,6 +232,7 @@ impl<'a> Bounded<'a> {
     }
 
     /// What is warned of at a point.
+    #[tactic(auto, unfolding(crate::specs::Warnings::warned_at))]
     fn warnings_at(
         &self,
         alloc: Global,

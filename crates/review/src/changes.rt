@@ -3,8 +3,8 @@
 use crate::room::Room;
 use crate::views::{Reviewed, Viewed};
 use certificate::{Bound, Domain, Held, Slot, Target};
-use explain::rights_beyond;
 use page::{Change, OpenKind, OpenState, Tone};
+use remarks::rights_beyond;
 use rights::Rights;
 use rights::limits::MAX_DESCRIPTORS;
 use texts::parts_of;

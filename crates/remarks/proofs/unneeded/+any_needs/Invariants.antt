@@ -1,5 +1,5 @@
 use Rattle.std.proofs.Common.{length}
-use Rattle.explain.proofs.unneeded.+any_needs.Given as goal
+use Rattle.remarks.proofs.unneeded.+any_needs.Given as goal
 
 abbrev pub decreases-any_needs : goal.decreases-any_needs
 decreases-any_needs l = length l.authorities.now

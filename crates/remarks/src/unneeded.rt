@@ -3,15 +3,15 @@
 ghost use Rattle.std.specs.Prelude.{◌≡◌, ◌∷◌, [], IfOk, filter, map};
 ghost use Rattle.std.specs.List.{list_any};
 ghost use Rattle.certificate.specs.Views.{authorities_of, authority_of, ceiling_of};
-ghost use Rattle.explain.specs.Unneeded.{authority_needs, ceiling_needs, has_right_for, is_other, is_unneeded, others, unneeded, without};
+ghost use Rattle.remarks.specs.Unneeded.{authority_needs, ceiling_needs, has_right_for, is_other, is_unneeded, others, unneeded, without};
 ghost use Rattle.rights.specs.Views.{operation_of};
 ghost use Rattle.task.specs.Views.{grant_of, grants_of};
 ghost use Rattle.texts.specs.Views.{name_of};
 
+use crate::policies::any_program_does;
 use certificate::{Authority, Ceiling, Cert};
 use checker::allowances::keeps_ceiling;
 use file_tree::Place;
-use remarks::any_program_does;
 use rights::{Op, Rights};
 use std::alloc::{AllocError, Global};
 use task::{Grant, Task};

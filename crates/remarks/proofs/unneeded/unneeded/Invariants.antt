@@ -1,8 +1,8 @@
 use Rattle.std.proofs.Common.{◌≡◌, filter, map, take}
 use Rattle.rights.specs.Views.{operation_of}
 use Rattle.task.specs.Views.{grant_of}
-use Rattle.explain.specs.Unneeded.{is_unneeded}
-use Rattle.explain.proofs.unneeded.unneeded.Given as goal
+use Rattle.remarks.specs.Unneeded.{is_unneeded}
+use Rattle.remarks.proofs.unneeded.unneeded.Given as goal
 
 -- of the operations so far those that nothing needs are there
 abbrev pub invariant-loop-operation : goal.invariant-loop-operation

@@ -2,7 +2,7 @@
 use Rattle.std.proofs.Common.{◌≡◌, true, false, [], ◌∷◌, refl}
 use Rattle.std.specs.Prelude.{codes}
 use Rattle.certificate.specs.Bounds.{Authority, Certificate, Three}
-use Rattle.explain.specs.Unneeded.{authority_needs, unneeded, without}
+use Rattle.remarks.specs.Unneeded.{authority_needs, unneeded, without}
 use Rattle.rights.specs.Operations.{Look, Read, Write}
 use Rattle.rights.specs.Sets.{lookup_right, read_right}
 use Rattle.rights.specs.Values.{RightSet}

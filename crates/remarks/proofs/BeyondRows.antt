@@ -7,7 +7,7 @@ use Rattle.rights.specs.Sets.{all_rights, read_right, write_right}
 use Rattle.rights.specs.Values.{RightSet}
 use Rattle.certificate.specs.Bounds.{Bound, ModeBound, Off, On, Held, Target, In_grant, Any_node, Socket, Open, Closed}
 use Rattle.instruction_set.specs.Programs.{Instruction, Halt, Invoke, Read, Number}
-use Rattle.explain.specs.Beyond.{beyond_at_all, points_beyond, rights_beyond}
+use Rattle.remarks.specs.Beyond.{beyond_at_all, points_beyond, rights_beyond}
 use Rattle.task.specs.Policies.{grant_named}
 use Rattle.task.specs.Plans.{Grant}
 

@@ -6,7 +6,7 @@ ghost use Rattle.instruction_set.specs.Views.{code_of};
 ghost use Rattle.remarks.specs.RemarkViews.{bounds_of};
 ghost use Rattle.remarks.specs.Remarks.{bound_here};
 ghost use Rattle.certificate.specs.Lines.{is_ceiling};
-ghost use Rattle.explain.specs.Beyond.{beyond_at, beyond_at_all, held_in_mode, is_unlisted, points_beyond, rights_beyond, rights_of_operations, unlisted_among};
+ghost use Rattle.remarks.specs.Beyond.{beyond_at, beyond_at_all, held_in_mode, is_unlisted, points_beyond, rights_beyond, rights_of_operations, unlisted_among};
 ghost use Rattle.task.specs.Views.{grants_of};
 ghost use Rattle.texts.specs.Views.{name_of};
 
