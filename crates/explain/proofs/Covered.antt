@@ -26,16 +26,16 @@ any_at f test (x ∷ xs) (suc k) d low passes = go (test (f x)) (any_at f test x
 abbrev pub some_finding : BrokenRuleCode
 some_finding = record { program = 0; point = 0; rule = rules.StartsWithin }
 
-abbrev In : BrokenRule → List BrokenRule → Type 0
+abbrev pub In : BrokenRule → List BrokenRule → Type 0
 In f [] = ⊥
 In f (g ∷ fs) = (f ≡ g) ⊎ In f fs
 
-record Found (test : BrokenRule → Bool) (fs : List BrokenRule) : Type 0 where
+pub record Found (test : BrokenRule → Bool) (fs : List BrokenRule) : Type 0 where
   pub found : BrokenRule
   pub is_in : In found fs
   pub passes : test found ≡ true
 
-any_found : (test : BrokenRule → Bool) (fs : List BrokenRule) → list_any test fs ≡ true → Found test fs
+pub any_found : (test : BrokenRule → Bool) (fs : List BrokenRule) → list_any test fs ≡ true → Found test fs
 any_found test [] any = absurd cc
 any_found test (f ∷ fs) any = go (test f) refl any (any_found test fs)
   where
@@ -58,7 +58,7 @@ second_empty (byte ∷ first) second is = absurd cc
 
 module _ (plan : Plan) (c : Certificate) (all : List BrokenRule) where
   -- the point of a finding that covers another comes before
-  earlier : (g f : BrokenRule) → covers plan c g f ≡ true → g.point < f.point
+  pub earlier : (g f : BrokenRule) → covers plan c g f ≡ true → g.point < f.point
   earlier g f is =
       let alike = leads_alike plan c g.program g.point f.point in
       let bounded = is_some (bound_at c (program_name plan g.program) g.point) in

@@ -2,3 +2,4 @@ pub mod Refused
 pub mod Tellings
 pub mod Covered
 mod CoveringRows
+pub mod Counted

@@ -199,12 +199,13 @@ pub(crate) fn started_beyond(
     ensures { IfOk result (λ found. found.items
         ≡ filter (λ d. not (may_start_with task.now (allowance_of allowed.now) (first_descriptor_of d))) start.now.descriptors.items) }
 {
-    start
-        .descriptors
-        .iter()
-        .copied()
-        .filter(|first| !may_start_with(task, allowed, *first))
-        .collect(alloc)
+    let mut found = Vec::new(alloc);
+    for first in &start.descriptors {
+        if !may_start_with(task, allowed, *first) {
+            found.push(*first)?;
+        }
+    }
+    Ok(found)
 }
 
 /// The ceilings whose grant doesn't list all that their rights are for.
@@ -216,12 +217,13 @@ pub(crate) fn unlisted_ceilings(
     ensures { IfOk result (λ found. found.items ≡ filter (λ c. not (keeps_ceiling task.now.grants (ceiling_of c))) allowed.now.ceilings.now) }
 {
     let grants = task.grants();
-    allowed
-        .ceilings
-        .iter()
-        .copied()
-        .filter(|ceiling| !keeps_ceiling(grants, ceiling))
-        .collect(alloc)
+    let mut found = Vec::new(alloc);
+    for ceiling in allowed.ceilings {
+        if !keeps_ceiling(grants, ceiling) {
+            found.push(*ceiling)?;
+        }
+    }
+    Ok(found)
 }
 
 /// The ceilings into whose grant something can be moved from another's.
@@ -232,12 +234,13 @@ pub(crate) fn moved_into(
 ) -> Result<Vec<Ceiling>, AllocError>
     ensures { IfOk result (λ found. found.items ≡ filter (λ target. not (stays_in (ceiling_of source.now) (ceiling_of target))) allowed.now.ceilings.now) }
 {
-    allowed
-        .ceilings
-        .iter()
-        .copied()
-        .filter(|target| !stays_in(source, target))
-        .collect(alloc)
+    let mut found = Vec::new(alloc);
+    for target in allowed.ceilings {
+        if !stays_in(source, target) {
+            found.push(*target)?;
+        }
+    }
+    Ok(found)
 }
 
 /// The listed ends by which something may come that isn't within the authority.
@@ -249,12 +252,13 @@ pub(crate) fn received_beyond(
     ensures { IfOk result (λ found. found.items ≡ filter (λ e. not (may_come (allowance_of allowed.now)
         (channel_at cert.now (held_end_of e).class (other_side (held_end_of e).side)))) allowed.now.ends.now) }
 {
-    allowed
-        .ends
-        .iter()
-        .copied()
-        .filter(|end| !may_come(cert, allowed, &end.class(), end.side().other()))
-        .collect(alloc)
+    let mut found = Vec::new(alloc);
+    for end in allowed.ends {
+        if !may_come(cert, allowed, &end.class(), end.side().other()) {
+            found.push(*end)?;
+        }
+    }
+    Ok(found)
 }
 
 /// The listed ends whose channel doesn't let everything through.
@@ -266,10 +270,11 @@ pub(crate) fn narrow_ends(
     ensures { IfOk result (λ found. found.items
         ≡ filter (λ e. not (is_widest (channel_at cert.now (held_end_of e).class (held_end_of e).side))) allowed.now.ends.now) }
 {
-    allowed
-        .ends
-        .iter()
-        .copied()
-        .filter(|end| !is_widest(cert, &end.class(), end.side()))
-        .collect(alloc)
+    let mut found = Vec::new(alloc);
+    for end in allowed.ends {
+        if !is_widest(cert, &end.class(), end.side()) {
+            found.push(*end)?;
+        }
+    }
+    Ok(found)
 }

@@ -32,7 +32,7 @@ pub(crate) fn may_show(
     call: &Syscall,
     made: &MadeCall,
 ) -> bool {
-    let Some(state) = lead.machine.processes().get(process as usize) else {
+    let Some(state) = lead.process(process) else {
         return false;
     };
     let names = Names {
@@ -69,41 +69,22 @@ fn awaited_of(process: u8, made: &MadeCall, at: usize) -> Awaited {
     }
 }
 
-/// Adds the run in which the call of a process shows the entry of a place where the kernel refuses it.
-fn add_refused<'a>(search: &Search<'a>, lead: &Lead<'a>, awaited: Awaited, found: &mut Leads<'a>) {
-    let event = Event {
-        process: awaited.process,
-        input: 0,
-        refuse: true,
-    };
-    add_tried(search, lead, awaited.trial(event), found);
-}
-
-/// Adds the run in which the call of a process shows the entry of a place, and where it doesn't, those in which the world moves first.
+/// Adds the run in which the call of a process shows the entry of a place, also where the kernel refuses it, and where it doesn't, those in
+/// which the world moves first.
 fn add_call<'a>(search: &Search<'a>, lead: &Lead<'a>, awaited: Awaited, found: &mut Leads<'a>) {
     if awaited.is_refusal {
-        add_refused(search, lead, awaited, found);
+        let refused = Event {
+            process: awaited.process,
+            input: 0,
+            refuse: true,
+        };
+        add_tried(search, lead, awaited.trial(refused), found);
     }
     let trial = awaited.trial(event_of(awaited.process));
     let is_shown = add_tried(search, lead, trial, found);
     if !is_shown && has_world(lead) && may_help(search, lead, awaited.process) {
         add_by_world(search, lead, awaited, found);
     }
-}
-
-/// Adds the run in which a process ends, which shows the entry of a place.
-fn add_end<'a>(
-    search: &Search<'a>,
-    lead: &Lead<'a>,
-    process: u8,
-    at: usize,
-    found: &mut Leads<'a>,
-) {
-    let trial = Trial::Step {
-        event: event_of(process),
-        shows: Some(at),
-    };
-    add_tried(search, lead, trial, found);
 }
 
 /// Adds the runs in which a process shows the entry of a place.
@@ -121,7 +102,13 @@ fn add_shown<'a>(
                 add_call(search, lead, awaited_of(process, made, at), found);
             }
         }
-        (Recorded::Ended, Some(Instruction::Halt)) => add_end(search, lead, process, at, found),
+        (Recorded::Ended, Some(Instruction::Halt)) => {
+            let trial = Trial::Step {
+                event: event_of(process),
+                shows: Some(at),
+            };
+            add_tried(search, lead, trial, found);
+        }
         _ => {}
     }
 }
@@ -234,7 +221,7 @@ pub(crate) fn inputs(
     process: u8,
     register: Register,
 ) -> Page {
-    match lead.machine.processes().get(process as usize) {
+    match lead.process(process) {
         Some(state) => {
             let code = code_of(search.task, state.program);
             bytes_at(search, code, state.point, register)

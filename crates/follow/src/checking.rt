@@ -211,6 +211,21 @@ fn make_moves(
     Ok(standing.is_at_end())
 }
 
+/// Makes moves one after another from the beginning of the task. Whether they may be, and all is shown then, is told.
+fn make_all(
+    alloc: Global,
+    setting: &Setting<'_>,
+    standing: &mut Standing<'_>,
+    moves: &[Move],
+) -> Result<bool, Stop>
+    ensures verdict { IfOk result (Judged (setting_of setting.now) (first_world setting.now.task.now) (Some (standing_of standing.old)) (moves_of moves.now)) }
+    ensures run { IfOk result (λ is. is ≡ true → HasRun setting.now.task.now (events_of (moves_of moves.now))) }
+    ensures memory { OnErr result (IsErrOf result Stop.Memory) }
+{
+    let mut machine: Machine<'_, LinkTree> = Machine::start(alloc, setting.task)?;
+    make_moves(alloc, setting, standing, &mut machine, moves)
+}
+
 /// Whether moves are a run of the task that shows the calls of a record.
 fn shows_by(
     alloc: Global,
@@ -226,8 +241,7 @@ fn shows_by(
     let Some(mut standing) = Standing::first(alloc, setting.task, setting.pairs, entries)? else {
         return Ok(false);
     };
-    let mut machine: Machine<'_, LinkTree> = Machine::start(alloc, setting.task)?;
-    make_moves(alloc, setting, &mut standing, &mut machine, moves)
+    make_all(alloc, setting, &mut standing, moves)
 }
 
 /// Whether the moves of a witness are a run of the task that shows the calls of a record. Where they are, the task has a run of their

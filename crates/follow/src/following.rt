@@ -1,10 +1,9 @@
 //! The search for a run of a task that shows the calls of a record.
 
-ghost use Rattle.std.specs.Prelude.{IfOk, IfSome};
+ghost use Rattle.std.specs.Prelude.{IfOk};
 ghost use Rattle.records.specs.EntryViews.{calls_seen};
 ghost use Rattle.follow.specs.FollowedViews.{IsFollowed};
-ghost use Rattle.follow.specs.Shows.{IsShown};
-ghost use Rattle.follow.specs.Views.{placings_of, witness_of};
+ghost use Rattle.follow.specs.Views.{placings_of};
 
 use crate::branching::{add_branches, stand_in};
 use crate::checking::shows;
@@ -79,7 +78,7 @@ enum Arrival {
 /// The search on its way.
 #[derive(Drop)]
 struct Trail<'a> {
-    /// The runs that may be gone on with, and the moves of the way to the last one that was.
+    /// The runs that may be gone on with, and the moves of the way to the one that was last.
     leads: Leads<'a>,
     way: Vec<Move>,
     /// The runs that come next behind that one.
@@ -89,6 +88,8 @@ struct Trail<'a> {
     fewest: usize,
     first_left: Option<&'a Entry>,
     points: Vec<AtPoint>,
+    /// The processes of a run that shows all, once one is found.
+    found: Vec<ProcessPair>,
     /// Whether memory was refused for something of that.
     is_short: bool,
 }
@@ -111,7 +112,10 @@ fn first_pairs(alloc: Global, task: &Task, entries: &[Entry]) -> Result<Vec<Proc
 /// What a process does in one step, if it does something and there is memory for it.
 fn outcome_of_step(lead: &mut Lead<'_>, process: u8) -> Option<LineResult> {
     match lead.machine.step(event_of(process)) {
-        Ok(line) => Some(line.acted?.outcome),
+        Ok(line) => match line.acted {
+            Some(acted) => Some(acted.outcome),
+            None => None,
+        },
         Err(_) => {
             lead.is_short = true;
             None
@@ -136,7 +140,9 @@ fn outcome_in(lead: &mut Lead<'_>, process: u8) -> LineResult {
 
 /// Where a process stands, as one that does nothing more.
 fn point_of(lead: &Lead<'_>, process: u8) -> Option<AtPoint> {
-    let state = lead.machine.processes().get(process as usize)?;
+    let Some(state) = lead.process(process) else {
+        return None;
+    };
     Some(AtPoint {
         process,
         program: state.program,
@@ -144,6 +150,21 @@ fn point_of(lead: &Lead<'_>, process: u8) -> Option<AtPoint> {
         in_mode: state.mode(),
         outcome: LineResult::Ended,
     })
+}
+
+impl<'a> Leads<'a> {
+    /// The point at which a process of the last run stands, and what its instruction comes to, if it was made.
+    fn point_in_last(&mut self, process: u8) -> Option<AtPoint> {
+        let Some(lead) = self.runs.last_mut() else {
+            return None;
+        };
+        let Some(mut point) = point_of(lead, process) else {
+            return None;
+        };
+        point.outcome = outcome_in(lead, process);
+        self.is_short = self.is_short || lead.is_short;
+        Some(point)
+    }
 }
 
 impl<'a> Trail<'a> {
@@ -157,6 +178,7 @@ impl<'a> Trail<'a> {
             fewest: entries.len(),
             first_left: None,
             points: Vec::new(alloc),
+            found: Vec::new(alloc),
             is_short: false,
         }
     }
@@ -175,11 +197,8 @@ impl<'a> Trail<'a> {
         }
     }
 
-    /// Goes on to the last run: up to where each process makes its next call.
-    fn settle(&mut self, search: &Search<'a>) {
-        let Some(lead) = self.leads.runs.last_mut() else {
-            return;
-        };
+    /// Goes on with a run up to where each process makes its next call.
+    fn settle(&mut self, search: &Search<'a>, lead: &mut Lead<'a>) {
         lead.settle(search);
         self.way.truncate(lead.progress.base);
         let is_refused = self.way.extend_from_slice(&lead.progress.moves).is_err();
@@ -189,11 +208,8 @@ impl<'a> Trail<'a> {
         }
     }
 
-    /// Whether the last run shows all, or such a run was met.
-    fn arrive(&mut self) -> Arrival {
-        let Some(lead) = self.leads.runs.last() else {
-            return Arrival::Met;
-        };
+    /// Whether a run shows all, or such a run was met.
+    fn arrive(&mut self, lead: &Lead<'a>) -> Arrival {
         if lead.progress.standing.is_at_end() {
             return Arrival::AtEnd;
         }
@@ -207,11 +223,8 @@ impl<'a> Trail<'a> {
         }
     }
 
-    /// Notes how far the last run has come, if none has come further.
-    fn reach(&mut self) {
-        let Some(lead) = self.leads.runs.last() else {
-            return;
-        };
+    /// Notes how far a run has come, if none has come further.
+    fn reach(&mut self, lead: &Lead<'a>) {
         let left = &lead.progress.standing.left;
         if left.len() < self.fewest || self.first_left.is_none() {
             self.points.clear();
@@ -220,14 +233,16 @@ impl<'a> Trail<'a> {
         }
     }
 
-    /// Which process of the last run shows the first entry that is left, if the run has come as far as any.
-    fn awaited(&self) -> Option<u8> {
-        let lead = self.leads.runs.last()?;
+    /// Which process of a run shows the first entry that is left, if the run has come as far as any.
+    fn awaited(&self, lead: &Lead<'a>) -> Option<u8> {
         let left = &lead.progress.standing.left;
         if left.len() > self.fewest || self.points.len() >= MOST_POINTS {
             return None;
         }
-        stand_in(&lead.progress.pairs, left.first()?.process)
+        match left.first() {
+            Some(entry) => stand_in(&lead.progress.pairs, entry.process),
+            None => None,
+        }
     }
 
     /// Notes a point, if it isn't there.
@@ -237,41 +252,25 @@ impl<'a> Trail<'a> {
         }
     }
 
-    /// Notes the point at which a process of a run stands that may be gone on with.
-    fn note_in(&mut self, lead: &mut Lead<'a>, process: u8) {
-        let Some(mut point) = point_of(lead, process) else {
-            return;
-        };
-        point.outcome = outcome_in(lead, process);
-        if lead.is_short {
-            self.is_short = true;
-        }
-        self.add_point(point);
-    }
-
-    /// Notes the point at which a process of the last run stands.
-    fn note(&mut self, search: &Search<'a>, process: u8) {
-        let Some(lead) = self.leads.runs.last() else {
-            return;
-        };
-        self.next.add_branch(search, lead);
-        if let Some(mut lead) = self.next.runs.pop() {
-            self.note_in(&mut lead, process);
+    /// Notes the point at which a process of a run stands.
+    fn note(&mut self, search: &Search<'a>, lead: &Lead<'a>, process: u8) {
+        if self.next.add_branch(search, lead) {
+            if let Some(point) = self.next.point_in_last(process) {
+                self.add_point(point);
+            }
+            self.next.drop_last();
         }
     }
 
-    /// Adds the runs that come next behind the last one, or notes where it stands.
-    fn branch(&mut self, search: &Search<'a>) {
-        self.reach();
-        let Some(lead) = self.leads.runs.last() else {
-            return;
-        };
+    /// Adds the runs that come next behind a run, or notes where it stands.
+    fn branch(&mut self, search: &Search<'a>, lead: &Lead<'a>) {
+        self.reach(lead);
         add_branches(search, lead, &mut self.next);
         if !self.next.runs.is_empty() {
             return;
         }
-        if let Some(process) = self.awaited() {
-            self.note(search, process);
+        if let Some(process) = self.awaited(lead) {
+            self.note(search, lead, process);
         }
     }
 
@@ -296,15 +295,17 @@ impl<'a> Trail<'a> {
         }
     }
 
-    /// Goes on with the last run. Whether it shows all is told.
-    fn go_on(&mut self, search: &Search<'a>) -> bool {
-        self.settle(search);
-        match self.arrive() {
-            Arrival::AtEnd => return true,
+    /// Goes on with a run. Whether it shows all is told.
+    fn go_on(&mut self, search: &Search<'a>, lead: &mut Lead<'a>) -> bool {
+        self.settle(search, lead);
+        match self.arrive(lead) {
+            Arrival::AtEnd => {
+                mem::swap(&mut self.found, &mut lead.progress.pairs);
+                return true;
+            }
             Arrival::Met => {}
-            Arrival::New => self.branch(search),
+            Arrival::New => self.branch(search, lead),
         }
-        self.leads.drop_last();
         self.keep();
         false
     }
@@ -314,13 +315,21 @@ impl<'a> Trail<'a> {
         self.is_short || self.leads.is_short || self.next.is_short
     }
 
-    /// Searches over at most so many states. Whether a run is found that shows all, which is the last one then, is told.
+    /// Takes the last run and goes on with it. Whether it shows all is told.
+    fn go_on_with_last(&mut self, search: &Search<'a>) -> bool {
+        match self.leads.runs.pop() {
+            Some(mut lead) => self.go_on(search, &mut lead),
+            None => false,
+        }
+    }
+
+    /// Searches over at most so many states. Whether a run is found that shows all is told.
     fn search(&mut self, search: &Search<'a>, bound: usize) -> bool {
         for _ in 0..bound {
             if self.leads.runs.is_empty() || self.is_short() {
                 break;
             }
-            if self.go_on(search) {
+            if self.go_on_with_last(search) {
                 return true;
             }
         }
@@ -328,28 +337,20 @@ impl<'a> Trail<'a> {
     }
 
     /// How far it has come that found nothing.
-    fn parted(self, entries: &[Entry]) -> Parted {
+    fn take_parted(&mut self, alloc: Global, entries: &[Entry]) -> Parted {
         Parted {
             entry: place_of(entries, self.first_left),
-            points: self.points,
+            points: mem::replace(&mut self.points, Vec::new(alloc)),
             states: self.met.len(),
             is_bounded: !self.leads.runs.is_empty(),
         }
     }
 
-    /// Takes the last run away, for its processes.
-    fn take_pairs(&mut self) -> Option<Vec<ProcessPair>> {
-        match self.leads.runs.pop() {
-            Some(lead) => Some(lead.into_pairs()),
-            None => None,
-        }
-    }
-
-    /// What shows that the last run shows all.
-    fn take_witness(&mut self, alloc: Global) -> Option<Witness> {
-        let pairs = self.take_pairs()?;
+    /// What shows that the run shows all that was found.
+    fn take_witness(&mut self, alloc: Global) -> Witness {
+        let pairs = mem::replace(&mut self.found, Vec::new(alloc));
         let moves = mem::replace(&mut self.way, Vec::new(alloc));
-        Some(Witness { pairs, moves })
+        Witness { pairs, moves }
     }
 }
 
@@ -400,24 +401,24 @@ fn sought<'a>(
     if trail.is_short() {
         return Err(Memory);
     }
-    Ok(if is_found {
-        trail.take_witness(search.alloc)
+    if is_found {
+        Ok(Some(trail.take_witness(search.alloc)))
     } else {
-        None
-    })
+        Ok(None)
+    }
 }
 
-/// The same, checked by `shows`.
+/// What a search from the beginning comes to: what is found is checked by `shows`.
 fn checked<'a>(
     trail: &mut Trail<'a>,
     search: &Search<'a>,
     entries: &'a [Entry],
     bound: usize,
-) -> Result<Option<Witness>, Memory>
-    ensures { IfOk result (λ witness. IfSome witness (λ it. IsShown search.now.task.now (placings_of search.now.placings.now) (calls_seen entries.now) (witness_of it))) }
+) -> Result<Followed, Memory>
+    ensures { IfOk result (IsFollowed search.now.task.now (placings_of search.now.placings.now) (calls_seen entries.now)) }
 {
     let Some(witness) = sought(trail, search, entries, bound)? else {
-        return Ok(None);
+        return Ok(Followed::Parts(trail.take_parted(search.alloc, entries)));
     };
     match shows(
         search.alloc,
@@ -427,8 +428,8 @@ fn checked<'a>(
         &witness,
     ) {
         Err(_) => Err(Memory),
-        Ok(true) => Ok(Some(witness)),
-        Ok(false) => Ok(None),
+        Ok(true) => Ok(Followed::Follows(witness)),
+        Ok(false) => Ok(Followed::Parts(trail.take_parted(search.alloc, entries))),
     }
 }
 
@@ -451,8 +452,5 @@ pub fn follow<'a>(
         limited: has_limiting(entries),
     };
     let mut trail = Trail::new(alloc, entries);
-    match checked(&mut trail, &search, entries, bound)? {
-        Some(witness) => Ok(Followed::Follows(witness)),
-        None => Ok(Followed::Parts(trail.parted(entries))),
-    }
+    checked(&mut trail, &search, entries, bound)
 }

@@ -11,7 +11,7 @@ use link_tree::LinkTree;
 use process::Process;
 use rights::Memory;
 use simulator::{LineResult, Machine};
-use std::alloc::Global;
+use std::alloc::{AllocError, Global};
 use std::marker::Model;
 use syscalls::Event;
 use task::Task;
@@ -206,9 +206,15 @@ impl<'a> Leads<'a> {
         }
     }
 
+    /// Adds a run.
+    fn try_push(&mut self, lead: Lead<'a>) -> Result<(), AllocError> {
+        self.runs.push(lead)?;
+        Ok(())
+    }
+
     /// Adds a run, if there is memory for it. Whether there is is told.
     pub(crate) fn push(&mut self, lead: Lead<'a>) -> bool {
-        if self.runs.push(lead).is_err() {
+        if self.try_push(lead).is_err() {
             self.is_short = true;
             return false;
         }
@@ -217,13 +223,19 @@ impl<'a> Leads<'a> {
 
     /// Adds a run that goes on from where another one is. Whether there was memory for it is told.
     pub(crate) fn add_branch(&mut self, search: &Search<'a>, lead: &Lead<'a>) -> bool {
-        match lead.branch(search.alloc) {
-            Ok(branch) => self.push(branch),
-            Err(_) => {
-                self.is_short = true;
-                false
-            }
-        }
+        let Ok(progress) = lead.progress.copy(search.alloc) else {
+            self.is_short = true;
+            return false;
+        };
+        let Ok(machine) = lead.machine.copy() else {
+            self.is_short = true;
+            return false;
+        };
+        self.push(Lead {
+            machine,
+            progress,
+            is_short: false,
+        })
     }
 
     /// Tries something in the last run. Whether it may be is told.
@@ -240,7 +252,7 @@ impl<'a> Leads<'a> {
 
     /// Drops the last run.
     pub(crate) fn drop_last(&mut self) {
-        self.runs.pop();
+        self.runs.truncate(self.runs.len().saturating_sub(1));
     }
 
     /// Notes whether memory was refused for what should stand on a page.
@@ -252,25 +264,16 @@ impl<'a> Leads<'a> {
 }
 
 impl<'a> Lead<'a> {
-    /// The same once more.
-    fn branch(&self, alloc: Global) -> Result<Lead<'a>, Memory> {
-        let machine = self.machine.copy()?;
-        Ok(Lead {
-            progress: self.progress.copy(alloc)?,
-            machine,
-            is_short: false,
-        })
-    }
-
-    /// The processes that stand for those of the record.
-    pub(crate) fn into_pairs(self) -> Vec<ProcessPair> {
-        let progress = self.progress;
-        progress.pairs
+    /// A process, if it was made.
+    pub(crate) fn process(&self, number: u8) -> Option<&Process> {
+        self.machine.processes().get(number as usize)
     }
 
     /// The instruction at which a process stands, if it was made, lives, and there is one.
     pub(crate) fn instruction(&self, task: &'a Task, process: u8) -> Option<&'a Instruction> {
-        let process = self.machine.processes().get(process as usize)?;
+        let Some(process) = self.process(process) else {
+            return None;
+        };
         if process.alive {
             code_of(task, process.program).get(process.point as usize)
         } else {

@@ -22,7 +22,7 @@ fn next_of<'c>(left: &[&'c Entry], process: u32) -> Option<&'c Entry> {
 
 /// Whether a process may make the call at which it stands without showing one.
 fn may_pass(search: &Search<'_>, lead: &Lead<'_>, process: u8, call: &Syscall) -> bool {
-    let Some(state) = lead.machine.processes().get(process as usize) else {
+    let Some(state) = lead.process(process) else {
         return false;
     };
     let transfer = transfer_in(&state.registers, Some(call), LineResult::Value(0));
@@ -81,11 +81,10 @@ fn stands_for(pairs: &[ProcessPair], process: u8) -> Option<u32> {
 
 /// What may come of the instruction at which a process stands.
 fn prospect_of(search: &Search<'_>, lead: &Lead<'_>, process: u8) -> Prospect {
-    let entry = stands_for(&lead.progress.pairs, process).and_then(|real| next_of(
-        &lead.progress.standing.left,
-        real,
-    ));
-    match entry {
+    let Some(real) = stands_for(&lead.progress.pairs, process) else {
+        return Prospect::Shows;
+    };
+    match next_of(&lead.progress.standing.left, real) {
         Some(entry) => prospect_before(search, lead, process, entry),
         None => Prospect::Shows,
     }
@@ -113,6 +112,16 @@ impl<'a> Leads<'a> {
         true
     }
 
+    /// Takes the run of a place out, if there is one, and puts it behind all others, if it is kept.
+    fn take_out(&mut self, at: usize, is_kept: bool) {
+        if at < self.runs.len() {
+            let run = self.runs.remove(at);
+            if is_kept {
+                self.push(run);
+            }
+        }
+    }
+
     /// Has those runs from a place on come first in which a process may show its next call, and drops those in which it is stuck, unless it
     /// is in all of them.
     pub(crate) fn prefer_showing(&mut self, search: &Search<'a>, process: u8, first: usize) {
@@ -121,14 +130,10 @@ impl<'a> Leads<'a> {
         }
         let mut at = first;
         for _ in first..self.runs.len() {
-            let prospect = self.prospect_at(search, process, at);
-            if prospect == Prospect::Shows || at >= self.runs.len() {
-                at = at.saturating_add(1);
-                continue;
-            }
-            let run = self.runs.remove(at);
-            if prospect == Prospect::Passes {
-                self.push(run);
+            match self.prospect_at(search, process, at) {
+                Prospect::Shows => at = at.saturating_add(1),
+                Prospect::Passes => self.take_out(at, true),
+                Prospect::Stuck => self.take_out(at, false),
             }
         }
     }

@@ -21,17 +21,23 @@ fn channel_of(call: &Syscall) -> Option<Operand> {
 
 /// The end of a pair that a process has at a number.
 fn end_at(lead: &Lead<'_>, process: u8, number: u8) -> Option<End> {
-    let (_, what) = open_at(lead.machine.files(), process, number)?;
-    match what.object {
-        Object::End { end, .. } => Some(end),
-        Object::Node { .. } => None,
+    match open_at(lead.machine.files(), process, number) {
+        Some((_, what)) => match what.object {
+            Object::End { end, .. } => Some(end),
+            Object::Node { .. } => None,
+        },
+        None => None,
     }
 }
 
 /// The end through which a call of a process goes, if it goes through one.
 fn end_of(lead: &Lead<'_>, process: u8, call: &Syscall) -> Option<End> {
-    let channel = channel_of(call)?;
-    let state = lead.machine.processes().get(process as usize)?;
+    let Some(channel) = channel_of(call) else {
+        return None;
+    };
+    let Some(state) = lead.process(process) else {
+        return None;
+    };
     match u8::try_from(value_of(&state.registers, channel)) {
         Ok(number) => end_at(lead, process, number),
         Err(_) => None,
@@ -53,7 +59,7 @@ fn has_other(lead: &Lead<'_>, process: u8, end: &End) -> bool {
 /// Whether a process that the record doesn't have has the other end of a pair.
 fn world_has_other(lead: &Lead<'_>, end: &End) -> bool {
     for process in 0..MAX_PROCESSES as u8 {
-        if is_of_world(lead, usize::from(process)) && has_other(lead, process, end) {
+        if is_of_world(lead, process) && has_other(lead, process, end) {
             return true;
         }
     }

@@ -16,16 +16,16 @@ const MOST_STEPS: usize = 600;
 const MOST_FOUND: usize = 4;
 
 /// Whether a process was made, lives, and stands for none of the record.
-pub(crate) fn is_of_world(lead: &Lead<'_>, number: usize) -> bool {
-    match lead.machine.processes().get(number) {
+pub(crate) fn is_of_world(lead: &Lead<'_>, number: u8) -> bool {
+    match lead.process(number) {
         None => false,
-        Some(process) => process.alive && !is_recorded(&lead.progress.pairs, number),
+        Some(process) => process.alive && !is_recorded(&lead.progress.pairs, usize::from(number)),
     }
 }
 
 /// Whether there is a process that the record doesn't have.
 pub(crate) fn has_world(lead: &Lead<'_>) -> bool {
-    for number in 0..MAX_PROCESSES {
+    for number in 0..MAX_PROCESSES as u8 {
         if is_of_world(lead, number) {
             return true;
         }
@@ -60,7 +60,7 @@ fn add_moves<'a>(search: &Search<'a>, lead: &Lead<'a>, process: u8, next: &mut L
 /// Adds the runs in which the world moves once.
 fn add_moved<'a>(search: &Search<'a>, run: &Lead<'a>, next: &mut Leads<'a>) {
     for number in 0..MAX_PROCESSES as u8 {
-        if is_of_world(run, usize::from(number)) {
+        if is_of_world(run, number) {
             add_moves(search, run, number, next);
         }
     }

@@ -1,12 +1,10 @@
 //! The text of a program, of its automaton: a block of instructions for each state.
 
 use crate::automata::{Automaton, Choice, State};
+use crate::labels::{label_of, remark_of};
 use crate::room::Room;
 use rights::limits::MAX_INSTRUCTIONS;
 use texts::{Page, Say, parts_of, say};
-
-/// How long what a label is made of is at most; a number may stand behind it.
-const MOST_OF_LABEL: usize = 12;
 
 /// In which column instructions begin, and what is told of them.
 const INSTRUCTIONS: usize = 16;
@@ -57,44 +55,6 @@ pub(crate) struct Code {
     pub text: Vec<u8>,
     pub points: usize,
     pub unseen: usize,
-}
-
-/// Whether a byte may stand in a label.
-fn is_of_label(byte: u8) -> bool {
-    matches!(byte, b'a'..=b'z' | b'0'..=b'9' | b'_')
-}
-
-/// Adds the bytes of a text that may stand in a label, up to its greatest length.
-fn add_to_label(room: &mut Room, label: &mut Vec<u8>, text: &[u8]) {
-    for byte in text {
-        let byte = byte.to_ascii_lowercase();
-        if label.len() < MOST_OF_LABEL && is_of_label(byte) {
-            room.push(label, byte);
-        }
-    }
-}
-
-/// What a label for a call is made of.
-fn label_of(room: &mut Room, choice: &Choice) -> Vec<u8> {
-    let mut label = room.list();
-    add_to_label(room, &mut label, choice.step.call.as_bytes());
-    if !choice.step.about.is_empty() {
-        add_to_label(room, &mut label, b"_");
-        add_to_label(room, &mut label, &choice.step.about);
-    }
-    label
-}
-
-/// What is told of a call.
-fn remark_of(room: &mut Room, choice: &Choice) -> Vec<u8> {
-    let place = choice.step.place.as_slice();
-    if choice.step.line == 0 {
-        room.copy(b"planned")
-    } else if place.is_empty() {
-        room.text(parts_of!("line ", choice.step.line))
-    } else {
-        room.text(parts_of!("line ", choice.step.line, ": ", place))
-    }
 }
 
 /// Adds blanks up to a column, one at least.

@@ -11,6 +11,7 @@ mod drafts;
 mod entrances;
 mod evidence;
 mod handles;
+mod labels;
 mod late_starts;
 mod learning;
 mod libraries;

@@ -1,10 +1,10 @@
 -- An element behind others, if memory wasn't refused for it; and what stands at places of a list.
-use Rattle.std.proofs.Common.{◌≡◌, ◌<◌, ℕ, All, Bool, true, false, List, [], ◌∷◌, ◌++◌, subst, subst₂, sym}
+use Rattle.std.proofs.Common.{◌≡◌, ◌<◌, ℕ, All, Bool, true, false, List, [], ◌∷◌, ◌++◌, ◌∙◌, ap, get_or, length, subst, subst₂, sym}
 use Rattle.std.specs.Prelude.{Some, cond}
 use Rattle.std.specs.List.{AllPairs, slice_get}
 use Rattle.std.proofs.lemmas.List.Elements.{All-push}
 use Rattle.std.proofs.lemmas.List.Quantifiers.{all_pairs_push}
-use Rattle.std.proofs.lemmas.Option.{get_or_from_slice_get, slice_get_within}
+use Rattle.std.proofs.lemmas.Option.{get_or_from_slice_get, slice_get_read, slice_get_within}
 
 pub pairs-push : {X : Type 0} (R : X → X → Type 0) (before after : List X) (x : X) (ok : Bool) → after ≡ cond ok (before ++ x ∷ []) before → AllPairs R before
     → All (λ y. R y x) before → AllPairs R after
@@ -21,3 +21,7 @@ at-both R xs i j a b pairs at also before =
 pub all-push : {X : Type 0} (P : X → Type 0) (before after : List X) (x : X) (ok : Bool) → after ≡ cond ok (before ++ x ∷ []) before → All P before → P x → All P after
 all-push P before after x true is all one = subst (All P) (sym is) (All-push P before x all one)
 all-push P before after x false is all one = subst (All P) (sym is) all
+
+-- what a look-up finds, in a list or one that is the same
+pub found-in : {X : Type 0} (xs ys : List X) (i : ℕ) (x : X) → ys ≡ xs → i < length ys → x ≡ get_or ys i x → slice_get xs i ≡ Some x
+found-in xs ys i x same within is = slice_get_read xs (length ys) i x (ap length same) within (is ∙ ap (λ list. get_or list i x) same)

@@ -21,12 +21,13 @@ ArrivesFree nets rows panel height = (row : ℕ) → slice_get rows row ≡ Some
 abbrev pub StandsAt : List ℕ → ℕ → Type 0
 StandsAt rows height = (row : ℕ) × (slice_get rows row ≡ Some height)
 
--- a place among the panels, or the classes, is that of this one
-abbrev pub HasPanel : List Arrival → ℕ → ℕ → Type 0
-HasPanel arrivals place panel = (a : Arrival) × (slice_get arrivals place ≡ Some a) × (a.panel ≡ panel)
+-- at a place among the panels a wire arrives at this one, at a height
+abbrev pub ArrivesAt : List Arrival → ℕ → ℕ → ℕ → Type 0
+ArrivesAt arrivals place panel height = slice_get arrivals place ≡ Some (record { panel = panel; height = height })
 
-abbrev pub HasClass : List ClassLane → ℕ → ℕ → Type 0
-HasClass classes place class = (c : ClassLane) × (slice_get classes place ≡ Some c) × (c.class ≡ class)
+-- a lane among those of the classes is that of this one
+abbrev pub IsAmong : List ClassLane → ClassLane → ℕ → Type 0
+IsAmong classes c class = (place : ℕ) × (slice_get classes place ≡ Some c) × (c.class ≡ class)
 
 -- which of the lanes, from the left, a class's lane or a panel's is
 abbrev pub pair_lane : Lanes → ℕ → ℕ

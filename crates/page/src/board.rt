@@ -52,7 +52,7 @@ pub const NARROW: Size = Size {
 };
 
 /// What a frame is of.
-#[derive(Clone, Copy, PartialEq, Eq)]
+#[derive(Clone, Copy)]
 pub enum FrameKind {
     /// The name of a program.
     Title,
@@ -276,9 +276,10 @@ fn half_block(alloc: Global, half: &Half, size: &Size) -> Result<Block, AllocErr
     ensures port { IfOk result (λ b. b.ports.next ≤ b.height) }
 {
     let mut block = Block::new(alloc, size.box_letters);
-    let tone = match half.kind {
-        HalfKind::Outside | HalfKind::Unreached => Tone::Faint,
-        HalfKind::Inside | HalfKind::Authority => Tone::InMode,
+    let tone = if half.kind.is_inside() {
+        Tone::InMode
+    } else {
+        Tone::Faint
     };
     let title = Words {
         text: &half.title,
@@ -301,6 +302,29 @@ fn half_block(alloc: Global, half: &Half, size: &Size) -> Result<Block, AllocErr
     Ok(block)
 }
 
+/// Adds what stands below the rows of a box: a space, and of a box in the mode without rows that it holds nothing.
+fn end_box(block: &mut Block, half: &Half) -> Result<(), AllocError>
+    requires { block.old.ports.next ≤ block.old.height }
+    ensures room { block.new.room ≡ block.old.room }
+    ensures port { block.new.ports.next ≤ block.new.height }
+{
+    if !half.rows.is_empty() {
+        block.space(6);
+        return Ok(());
+    }
+    if !half.kind.is_inside() {
+        return Ok(());
+    }
+    let words = Words {
+        text: b"holds nothing",
+        tone: Tone::Faint,
+    };
+    block.add(NO_WORDS, 0, words)?;
+    block.space(6);
+    block.space(6);
+    Ok(())
+}
+
 /// A box with its rows.
 fn box_block(alloc: Global, half: &Half, size: &Size, column: usize) -> Result<Block, AllocError>
     ensures room { IfOk result (λ b. b.room ≡ size.now.box_letters) }
@@ -310,19 +334,44 @@ fn box_block(alloc: Global, half: &Half, size: &Size, column: usize) -> Result<B
     for row in &half.rows {
         add_row(&mut block, row, column)?;
     }
-    let is_inside = matches!(half.kind, HalfKind::Inside | HalfKind::Authority);
-    if half.rows.is_empty() && is_inside {
-        let words = Words {
-            text: b"holds nothing",
-            tone: Tone::Faint,
-        };
-        block.add(NO_WORDS, 0, words)?;
-        block.space(6);
-    }
-    if !half.rows.is_empty() || is_inside {
-        block.space(6);
-    }
+    end_box(&mut block, half)?;
     Ok(block)
+}
+
+/// Adds the title of a program.
+fn add_title(board: &mut Board, program: &Program, size: &Size) -> Result<(), AllocError>
+    requires { board.old.width ≡ size.now.box_width }
+    ensures left { board.new.left ≡ board.old.left }
+    ensures width { board.new.width ≡ board.old.width }
+    ensures start { board.new.start ≡ board.old.start }
+{
+    let title = title_block(*board.frames.allocator(), program, size)?;
+    board.add(FrameKind::Title, TITLE_INSET, title)
+}
+
+/// Adds the way into the mode, in front of each half but the first.
+fn add_gate(board: &mut Board, program: &Program, at: usize, size: &Size) -> Result<(), AllocError>
+    requires { board.old.width ≡ size.now.box_width }
+    ensures left { board.new.left ≡ board.old.left }
+    ensures width { board.new.width ≡ board.old.width }
+    ensures start { board.new.start ≡ board.old.start }
+{
+    if at == 0 {
+        return Ok(());
+    }
+    let gate = gate_block(*board.frames.allocator(), program, size)?;
+    board.add(FrameKind::Gate, GATE_INSET, gate)
+}
+
+/// Adds the box of a half.
+fn add_box(board: &mut Board, half: &Half, size: &Size, column: usize) -> Result<(), AllocError>
+    requires { board.old.width ≡ size.now.box_width }
+    ensures left { board.new.left ≡ board.old.left }
+    ensures width { board.new.width ≡ board.old.width }
+    ensures start { board.new.start ≡ board.old.start }
+{
+    let block = box_block(*board.frames.allocator(), half, size, column)?;
+    board.add(FrameKind::Half(half.kind), BOX_INSET, block)
 }
 
 /// Adds a program: its title, and its boxes with the way between them.
@@ -337,16 +386,10 @@ fn add_program(
     ensures width { board.new.width ≡ board.old.width }
     ensures start { board.new.start ≡ board.old.start }
 {
-    let alloc = *board.frames.allocator();
-    let title = title_block(alloc, program, size)?;
-    board.add(FrameKind::Title, TITLE_INSET, title)?;
+    add_title(board, program, size)?;
     for (at, half) in program.halves.iter().enumerate() {
-        if at > 0 {
-            let gate = gate_block(alloc, program, size)?;
-            board.add(FrameKind::Gate, GATE_INSET, gate)?;
-        }
-        let block = box_block(alloc, half, size, column)?;
-        board.add(FrameKind::Half(half.kind), BOX_INSET, block)?;
+        add_gate(board, program, at, size)?;
+        add_box(board, half, size, column)?;
     }
     Ok(())
 }

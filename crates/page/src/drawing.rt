@@ -2,45 +2,66 @@
 
 use crate::board::{Frame, FrameKind, NARROW, Size, WIDE};
 use crate::frames::TextLine;
-use crate::html::{Html, Shown};
+use crate::html::{Html, Put, Shown};
 use crate::lanes::ClassLane;
 use crate::layouts::{Layout, Plan, lay_out, plan_of, wires_in};
 use crate::pictures::{HalfKind, Picture, Row, Target};
 use crate::put;
-use crate::sentences::{Tone, add_sentence};
-use crate::wires::{Lanes, Wire};
+use crate::sentences::{Tone, add_sentences};
+use crate::wires::{Lanes, Point, Wire};
 use crate::wiring::class_of;
 use std::alloc::AllocError;
 
 /// The radius of a corner.
 const RADIUS: u32 = 6;
 
-/// A sign before a number: of what grows to the right or down none.
-fn sign(grows: bool) -> &'static str {
-    if grows { "" } else { "-" }
+/// A way along or down, by the radius of a corner; one that doesn't grow goes to the left or up.
+#[derive(Clone, Copy)]
+struct Bend {
+    radius: u32,
+    grows: bool,
 }
 
-/// A number a corner's radius before another, on the way that grows or falls.
-fn before(end: u32, radius: u32, grows: bool) -> u32 {
-    if grows {
-        end.saturating_sub(radius)
-    } else {
-        end.saturating_add(radius)
+impl Bend {
+    /// Where it begins, if it ends at a number.
+    fn before(self, end: u32) -> u32 {
+        if self.grows {
+            end.saturating_sub(self.radius)
+        } else {
+            end.saturating_add(self.radius)
+        }
+    }
+}
+
+/// Its radius, with a sign if it doesn't grow.
+impl Put for Bend {
+    fn put(self, html: &mut Html) {
+        put!(html; if self.grows { "" } else { "-" }, self.radius)
     }
 }
 
 /// Adds a wire: along, a corner, up or down, a corner, along.
 fn add_wire(html: &mut Html, wire: &Wire) {
     let (from, to, lane) = (wire.from, wire.to, wire.lane);
-    put!(html; "<path class=\"w ", wire.tone.line_class(), "\" d=\"M", from.x, " ", from.y);
+    put!(html; "<path class=\"w ", wire.tone.line_class(), "\" d=\"M", from);
     if from.y == to.y {
         return put!(html; "H", lane, "H", to.x, "\"/>\n");
     }
-    let (leaves, falls, arrives) = (from.x < lane, from.y < to.y, lane < to.x);
     let radius = (from.y.abs_diff(to.y) / 2).min(RADIUS);
-    put!(html; "H", before(lane, radius, leaves), "q", sign(leaves), radius, " 0 ", sign(leaves), radius, " ", sign(falls), radius);
-    put!(html; "V", before(to.y, radius, falls), "q0 ", sign(falls), radius, " ", sign(arrives), radius, " ", sign(falls), radius);
-    put!(html; "H", to.x, "\"/>\n")
+    let leaves = Bend {
+        radius,
+        grows: from.x < lane,
+    };
+    let falls = Bend {
+        radius,
+        grows: from.y < to.y,
+    };
+    let arrives = Bend {
+        radius,
+        grows: lane < to.x,
+    };
+    put!(html; "H", leaves.before(lane), "q", leaves, " 0 ", leaves, " ", falls);
+    put!(html; "V", falls.before(to.y), "q0 ", falls, " ", arrives, " ", falls, "H", to.x, "\"/>\n")
 }
 
 /// The classes of a head's letters.
@@ -53,24 +74,33 @@ fn head_class(kind: FrameKind) -> &'static str {
     }
 }
 
+/// Adds the letters of a line's head or tail, if it has some.
+fn add_letters(html: &mut Html, class: &'static str, tone: Tone, letters: &[u8]) {
+    if !letters.is_empty() {
+        put!(html; "<tspan class=\"", class, tone.class(), "\">", Shown(letters), "</tspan>")
+    }
+}
+
 /// Adds a line of letters.
 fn add_line(html: &mut Html, frame: &Frame, line: &TextLine) {
     let (head, tail) = line.letters.split_at(line.head.min(line.letters.len()));
     put!(html; "<text x=\"", frame.left.saturating_add(frame.indent), "\" y=\"", frame.top.saturating_add(line.baseline), "\">");
-    if !head.is_empty() {
-        put!(html; "<tspan class=\"", head_class(frame.kind), line.head_tone.class(), "\">", Shown(head), "</tspan>")
-    }
-    if !tail.is_empty() {
-        put!(html; "<tspan class=\"", line.tail_tone.class(), "\">", Shown(tail), "</tspan>")
-    }
+    add_letters(html, head_class(frame.kind), line.head_tone, head);
+    add_letters(html, "", line.tail_tone, tail);
     put!(html; "</text>\n")
 }
 
 /// Adds an arrow down, from the box outside the mode to the one inside.
 fn add_arrow(html: &mut Html, frame: &Frame) {
-    let x = frame.left.saturating_add(16);
-    put!(html; "<path class=\"w mode\" d=\"M", x, " ", frame.top, "v23\"/><path class=\"d mode\" d=\"M");
-    put!(html; x.saturating_sub(5), " ", frame.top.saturating_add(20), "h10l-5 9z\"/>\n")
+    let begin = Point {
+        x: frame.left.saturating_add(16),
+        y: frame.top,
+    };
+    let head = Point {
+        x: begin.x.saturating_sub(5),
+        y: frame.top.saturating_add(20),
+    };
+    put!(html; "<path class=\"w mode\" d=\"M", begin, "v23\"/><path class=\"d mode\" d=\"M", head, "h10l-5 9z\"/>\n")
 }
 
 /// Adds a rectangle, so much inside a frame.
@@ -110,7 +140,7 @@ fn add_frames(html: &mut Html, frames: &[Frame]) {
 
 /// Whether no other row is of a row's class.
 fn is_alone(classes: &[ClassLane], class: usize) -> bool {
-    match class_of(classes, class).and_then(|at| classes.get(at)) {
+    match class_of(classes, class) {
         Some(found) => found.first == found.last,
         None => false,
     }
@@ -149,8 +179,10 @@ fn add_layout(html: &mut Html, plan: &Plan<'_>, layout: &Layout, wires: &[Wire])
     }
     add_frames(html, &layout.boxes.frames);
     add_frames(html, &layout.panels.frames);
-    for (row, y) in plan.rows.iter().zip(&layout.boxes.ports.items) {
-        add_port(html, plan, &layout.lanes, row, *y);
+    for (at, row) in plan.rows.iter().enumerate() {
+        if let Some(y) = layout.boxes.ports.items.get(at) {
+            add_port(html, plan, &layout.lanes, row, *y);
+        }
     }
     put!(html; "</svg>")
 }
@@ -194,10 +226,6 @@ pub(crate) fn add_picture(html: &mut Html, picture: &Picture) {
         html.fail()
     }
     put!(html; "<details><summary>The picture in words</summary><ul id=\"words\">");
-    for sentence in &picture.words {
-        put!(html; "<li>");
-        add_sentence(html, sentence);
-        put!(html; "</li>\n")
-    }
+    add_sentences(html, "<li>", &picture.words, "</li>\n");
     put!(html; "</ul></details></section>\n")
 }

@@ -248,19 +248,26 @@ pub(crate) fn count_words(text: &[u8]) -> u32 {
     count
 }
 
+/// Adds the letters of a path, as far as there is room: of a longer one the middle is left out.
+fn add_shortened(short: &mut Vec<u8>, path: &[u8], room: usize) -> Result<(), AllocError>
+    requires { length short.old.items ≤ room }
+    ensures { length short.new.items ≤ room }
+{
+    if path.len() <= room || room < 3 {
+        return add_letters(short, path, room);
+    }
+    let front = (room - 3) / 2;
+    let back = room - 3 - front;
+    add_letters(short, &path[..front], room)?;
+    add_letters(short, b"...", room)?;
+    add_letters(short, &path[path.len() - back..], room)
+}
+
 /// A path of at most so many letters: of a longer one the middle is left out.
 pub fn shortened(alloc: Global, path: &[u8], room: usize) -> Result<Vec<u8>, AllocError>
     ensures { IfOk result (λ short. length short.items ≤ room) }
 {
     let mut short = Vec::new(alloc);
-    if path.len() <= room || room < 3 {
-        add_letters(&mut short, path, room)?;
-        return Ok(short);
-    }
-    let front = (room - 3) / 2;
-    let back = room - 3 - front;
-    add_letters(&mut short, &path[..front], room)?;
-    add_letters(&mut short, b"...", room)?;
-    add_letters(&mut short, &path[path.len() - back..], room)?;
+    add_shortened(&mut short, path, room)?;
     Ok(short)
 }

@@ -2,7 +2,7 @@
 
 use crate::html::{Html, Shown};
 use crate::put;
-use crate::sentences::add_sentence;
+use crate::sentences::{Sentence, add_sentences};
 use crate::sheets::{Column, Header, Item, Sheet, Verdict};
 use crate::styles::add_style;
 
@@ -45,15 +45,10 @@ fn add_links(html: &mut Html, sheet: &Sheet) {
 
 /// Adds an item, with the places below it.
 fn add_item(html: &mut Html, item: &Item) {
-    put!(html; "<li>");
-    add_sentence(html, &item.words);
+    put!(html; "<li>", Sentence(&item.words));
     if !item.below.is_empty() {
         put!(html; "<ul>");
-        for place in &item.below {
-            put!(html; "<li>");
-            add_sentence(html, place);
-            put!(html; "</li>")
-        }
+        add_sentences(html, "<li>", &item.below, "</li>");
         put!(html; "</ul>")
     }
     put!(html; "</li>\n")
@@ -81,9 +76,8 @@ pub(crate) fn add_header(html: &mut Html, sheet: &Sheet) {
     }
     put!(html; "</span>");
     add_links(html, sheet);
-    put!(html; "</div>\n<h1><b class=\"", header.verdict.class(), "\">", Shown(&header.word), "</b> ", Shown(&header.heading), "</h1>\n<p class=\"lead\">");
-    add_sentence(html, &header.lead);
-    put!(html; "</p>\n<div class=\"two\">");
+    put!(html; "</div>\n<h1><b class=\"", header.verdict.class(), "\">", Shown(&header.word), "</b> ", Shown(&header.heading));
+    put!(html; "</h1>\n<p class=\"lead\">", Sentence(&header.lead), "</p>\n<div class=\"two\">");
     add_column(html, &header.left);
     add_column(html, &header.right);
     put!(html; "</div></header>\n")

@@ -90,6 +90,14 @@ fn free_lane(classes: &[ClassLane], lanes: usize, first: usize) -> usize
 }
 
 impl Classes {
+    /// None yet.
+    pub(crate) fn none(alloc: Global) -> Classes {
+        Classes {
+            items: Vec::new(alloc),
+            lanes: 0,
+        }
+    }
+
     /// Adds a class behind the others, in the least lane that is free from its first row on.
     fn push(&mut self, span: Span) -> Result<(), AllocError> {
         let lane = free_lane(&self.items, self.lanes, span.first);
@@ -102,19 +110,14 @@ impl Classes {
         self.lanes = self.lanes.max(lane + 1);
         Ok(())
     }
-}
 
-/// The classes of the rows with their lanes.
-pub(crate) fn class_lanes(alloc: Global, nets: &[Target]) -> Result<Classes, AllocError> {
-    let spans = spans_of(alloc, nets)?;
-    let mut classes = Classes {
-        items: Vec::new(alloc),
-        lanes: 0,
-    };
-    for span in &spans {
-        classes.push(*span)?;
+    /// Adds the classes of the rows with their lanes.
+    pub(crate) fn add(&mut self, nets: &[Target]) -> Result<(), AllocError> {
+        for span in &spans_of(*self.items.allocator(), nets)? {
+            self.push(*span)?;
+        }
+        Ok(())
     }
-    Ok(classes)
 }
 
 /// A panel in the order of the picture.
@@ -128,8 +131,10 @@ pub struct Placed {
 /// The first row that leads to a panel.
 fn first_row(nets: &[Target], panel: usize) -> Option<usize> {
     for (at, net) in nets.iter().enumerate() {
-        if *net == Target::Panel(panel) {
-            return Some(at);
+        if let Target::Panel(found) = net {
+            if *found == panel {
+                return Some(at);
+            }
         }
     }
     None
@@ -142,14 +147,15 @@ fn add_named(
     panels: &[Panel],
 ) -> Result<(), AllocError> {
     for (at, net) in nets.iter().enumerate() {
-        if let Target::Panel(panel) = net {
-            let is_first = first_row(nets, *panel) == Some(at);
-            if is_first && panels.get(*panel).is_some_and(|found| found.is_grant) {
-                placed.push(Placed {
-                    panel: *panel,
-                    first: Some(at),
-                })?;
-            }
+        let Target::Panel(panel) = *net else {
+            continue;
+        };
+        let (Some(found), Some(first)) = (panels.get(panel), first_row(nets, panel)) else {
+            continue;
+        };
+        if found.is_grant && first == at {
+            let first = Some(at);
+            placed.push(Placed { panel, first })?;
         }
     }
     Ok(())
@@ -171,15 +177,13 @@ fn add_others(
     Ok(())
 }
 
-/// The panels in the order of the picture: as rows first lead to them, then the other grants, and last what is in no grant.
-pub fn placed_panels(
-    alloc: Global,
+/// Adds the panels in the order of the picture: as rows first lead to them, then the other grants, and last what is in no grant.
+pub(crate) fn add_placed(
+    placed: &mut Vec<Placed>,
     nets: &[Target],
     panels: &[Panel],
-) -> Result<Vec<Placed>, AllocError> {
-    let mut placed = Vec::new(alloc);
-    add_named(&mut placed, nets, panels)?;
-    add_others(&mut placed, nets, panels, true)?;
-    add_others(&mut placed, nets, panels, false)?;
-    Ok(placed)
+) -> Result<(), AllocError> {
+    add_named(placed, nets, panels)?;
+    add_others(placed, nets, panels, true)?;
+    add_others(placed, nets, panels, false)
 }

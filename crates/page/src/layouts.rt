@@ -6,9 +6,9 @@ ghost use Rattle.page.specs.WireViews.{ArrivesFree, KeepAllApart};
 
 use crate::arrivals::Arrivals;
 use crate::board::{Board, Size, add_programs};
-use crate::lanes::{Classes, Placed, class_lanes, placed_panels};
+use crate::lanes::{Classes, Placed, add_placed};
 use crate::panels::add_panels;
-use crate::pictures::{Picture, Row, Target};
+use crate::pictures::{Panel, Picture, Row, Target};
 use crate::stops::spread;
 use crate::wires::{Lanes, Ways, Wire};
 use crate::wiring::wires_of;
@@ -48,28 +48,23 @@ pub struct Layout {
     pub lanes: Lanes,
 }
 
-/// The rows of a picture, from the top on.
-fn rows_of(alloc: Global, picture: &Picture) -> Result<Vec<&Row>, AllocError> {
-    let mut rows = Vec::new(alloc);
+/// Adds the rows of a picture, from the top on, and what they lead to.
+fn add_rows<'p>(
+    rows: &mut Vec<&'p Row>,
+    nets: &mut Vec<Target>,
+    picture: &'p Picture,
+) -> Result<(), AllocError> {
     for program in &picture.programs {
         for half in &program.halves {
             for row in &half.rows {
                 if rows.len() < MAX_ROWS {
                     rows.push(row)?;
+                    nets.push(row.target)?;
                 }
             }
         }
     }
-    Ok(rows)
-}
-
-/// What the rows lead to.
-fn nets_of(alloc: Global, rows: &[&Row]) -> Result<Vec<Target>, AllocError> {
-    let mut nets = Vec::new(alloc);
-    for row in rows {
-        nets.push(row.target)?;
-    }
-    Ok(nets)
+    Ok(())
 }
 
 /// How many letters the column of names takes.
@@ -155,12 +150,23 @@ fn panels_top(size: &Size, boxes: &Board) -> u32
     if size.is_wide { 18 } else { boxes.below + 36 }
 }
 
+/// The classes of rows with their lanes, and the panels in their order.
+fn places_of(
+    alloc: Global,
+    nets: &[Target],
+    panels: &[Panel],
+) -> Result<(Classes, Vec<Placed>), AllocError> {
+    let (mut classes, mut placed) = (Classes::none(alloc), Vec::new(alloc));
+    classes.add(nets)?;
+    add_placed(&mut placed, nets, panels)?;
+    Ok((classes, placed))
+}
+
 /// The rows of a picture, and what follows from what they lead to.
 pub(crate) fn plan_of<'p>(alloc: Global, picture: &'p Picture) -> Result<Plan<'p>, AllocError> {
-    let rows = rows_of(alloc, picture)?;
-    let nets = nets_of(alloc, &rows)?;
-    let classes = class_lanes(alloc, &nets)?;
-    let placed = placed_panels(alloc, &nets, &picture.panels)?;
+    let (mut rows, mut nets) = (Vec::new(alloc), Vec::new(alloc));
+    add_rows(&mut rows, &mut nets, picture)?;
+    let (classes, placed) = places_of(alloc, &nets, &picture.panels)?;
     Ok(Plan {
         rows,
         nets,

@@ -6,7 +6,7 @@ ghost use Rattle.page.specs.Letters.{begins_letter};
 
 use crate::html::{Html, Shown};
 use crate::put;
-use crate::sentences::add_sentence;
+use crate::sentences::add_sentences;
 use crate::sheets::{Change, Line, Listing, Mode, OpenKind, OpenState, Remark, RemarkKind};
 
 /// How many letters of a line are shown at most, of its instruction and its comment each.
@@ -43,13 +43,11 @@ pub fn first_letters(text: &[u8], limit: usize) -> &[u8]
     text
 }
 
-/// Adds the first letters of a text, and says by dots if there are more.
-fn add_letters(html: &mut Html, text: &[u8]) {
+/// Adds the first letters of a text in an element, and says by dots if there are more.
+fn add_letters(html: &mut Html, begin: &'static str, text: &[u8], end: &'static str) {
     let front = first_letters(text, MAX_LETTERS);
-    put!(html; Shown(front));
-    if front.len() < text.len() {
-        put!(html; "…")
-    }
+    let dots = if front.len() < text.len() { "…" } else { "" };
+    put!(html; begin, Shown(front), dots, end)
 }
 
 /// Adds the cell of a number.
@@ -66,19 +64,18 @@ fn add_state(html: &mut Html, state: OpenState) {
 
 /// Adds the text of a line: the instruction, where an error leads, and the comment.
 fn add_source(html: &mut Html, line: &Line) {
-    add_letters(html, &line.indent);
-    put!(html; if line.is_broken { "<u>" } else { "" });
-    add_letters(html, &line.text);
-    put!(html; if line.is_broken { "</u>" } else { "" });
+    let (begin, end) = if line.is_broken {
+        ("<u>", "</u>")
+    } else {
+        ("", "")
+    };
+    add_letters(html, "", &line.indent, "");
+    add_letters(html, begin, &line.text, end);
     if !line.tail.is_empty() {
-        put!(html; "<s>");
-        add_letters(html, &line.tail);
-        put!(html; "</s>")
+        add_letters(html, "<s>", &line.tail, "</s>")
     }
     if !line.comment.is_empty() {
-        put!(html; "<i>");
-        add_letters(html, &line.comment);
-        put!(html; "</i>")
+        add_letters(html, "<i>", &line.comment, "</i>")
     }
 }
 
@@ -99,11 +96,7 @@ fn add_remark(html: &mut Html, remark: &Remark, columns: usize) {
         RemarkKind::Authority => "<tr class=\"E M\"><td colspan=\"",
     });
     put!(html; columns, "\">");
-    for paragraph in &remark.paragraphs {
-        put!(html; "<p>");
-        add_sentence(html, paragraph);
-        put!(html; "</p>")
-    }
+    add_sentences(html, "<p>", &remark.paragraphs, "</p>");
     put!(html; "</td></tr>\n")
 }
 

@@ -2,7 +2,7 @@
 
 use crate::html::{Html, Shown};
 use crate::put;
-use crate::sentences::{Tone, add_sentence};
+use crate::sentences::{Tone, add_sentences};
 use crate::sheets::PointGroup;
 
 /// How many rights there are.
@@ -89,12 +89,12 @@ pub struct Matrix {
 /// Adds the heads of the columns.
 fn add_heads(html: &mut Html) {
     put!(html; "<thead><tr><td></td>");
-    for (name, columns) in GROUPS {
-        put!(html; "<th class=\"o\" colspan=\"", columns, "\" scope=\"colgroup\"><b>", name, "</b></th>")
+    for (name, columns) in &GROUPS {
+        put!(html; "<th class=\"o\" colspan=\"", *columns, "\" scope=\"colgroup\"><b>", *name, "</b></th>")
     }
     put!(html; "<td></td></tr><tr><td></td>");
-    for name in NAMES {
-        put!(html; "<th scope=\"col\"><span>", name, "</span></th>")
+    for name in &NAMES {
+        put!(html; "<th scope=\"col\"><span>", *name, "</span></th>")
     }
     put!(html; "<td></td></tr></thead>")
 }
@@ -131,8 +131,8 @@ fn add_row(html: &mut Html, row: &MatrixRow) {
         put!(html; "</small>")
     }
     put!(html; "</th>");
-    for cell in row.cells {
-        add_cell(html, cell);
+    for cell in &row.cells {
+        add_cell(html, *cell);
     }
     put!(html; "<td class=\"v\"><span class=\"", row.tone.class(), "\">", Shown(&row.count), "</span></td></tr>\n")
 }
@@ -150,7 +150,7 @@ fn add_group(html: &mut Html, group: &MatrixGroup) {
 fn has_mark(matrix: &Matrix, mark: Mark) -> bool {
     for group in &matrix.groups {
         for row in &group.rows {
-            for cell in row.cells {
+            for cell in &row.cells {
                 if cell.mark == mark {
                     return true;
                 }
@@ -202,11 +202,7 @@ fn add_points(html: &mut Html, points: &[PointGroup]) {
     put!(html; "<details><summary>By point, outside the mode too</summary>");
     for group in points {
         put!(html; "<h3>", &group.program, "</h3><ul>");
-        for item in &group.items {
-            put!(html; "<li>");
-            add_sentence(html, item);
-            put!(html; "</li>")
-        }
+        add_sentences(html, "<li>", &group.items, "</li>");
         put!(html; "</ul>\n")
     }
     put!(html; "</details>")

@@ -1,6 +1,6 @@
 //! Where the panels of the file tree stand, and the heights at which wires arrive at them.
 
-ghost use Rattle.std.specs.Prelude.{◌≡◌, ◌+◌, ◌≤◌, All, IfOk, IfSome, false, true};
+ghost use Rattle.std.specs.Prelude.{◌≡◌, ◌+◌, ◌≤◌, All, IfOk, IfSome, OnOk, false, true};
 ghost use Rattle.page.specs.WireViews.{ArrivesFree, StandsAt, LeadsTo};
 
 use crate::arrivals::Arrivals;
@@ -11,9 +11,25 @@ use crate::pictures::{Panel, Target};
 use crate::sentences::Tone;
 use crate::stops::Stops;
 use std::alloc::{AllocError, Global};
+use texts::{Page, say};
 
 /// How many lines the nodes of a panel take.
 const NODE_LINES: usize = 3;
+
+/// Adds how many more nodes there are.
+fn add_count(block: &mut Block, rest: &[u8]) -> Result<(), AllocError>
+    ensures room { block.new.room ≡ block.old.room }
+    ensures grows { block.old.height ≤ block.new.height }
+    ensures ports { block.new.ports ≡ block.old.ports }
+{
+    let mut more = Page::new(*block.lines.allocator());
+    say!(&mut more; "and ", count_words(rest), " more");
+    let words = Words {
+        text: more.finish()?,
+        tone: Tone::Faint,
+    };
+    block.add(NO_WORDS, 0, words)
+}
 
 /// Adds the nodes of a panel: up to three lines, and in the last how many more there are.
 fn add_nodes(block: &mut Block, nodes: &[u8]) -> Result<(), AllocError>
@@ -28,13 +44,7 @@ fn add_nodes(block: &mut Block, nodes: &[u8]) -> Result<(), AllocError>
         }
         let (front, back) = split_line(rest, block.room.max(1));
         if at == NODE_LINES && !back.is_empty() {
-            let mut more = texts::Page::new(*block.lines.allocator());
-            texts::say!(&mut more; "and ", count_words(rest), " more");
-            let words = Words {
-                text: more.finish()?,
-                tone: Tone::Faint,
-            };
-            return block.add(NO_WORDS, 0, words);
+            return add_count(block, rest);
         }
         let words = Words {
             text: front,
@@ -131,9 +141,32 @@ fn wanted_top(place: &Placed, rows: &Stops, size: &Size) -> u32
     if !size.is_wide {
         return 0;
     }
-    let row = place.first.and_then(|first| rows.items.get(first)).copied();
-    row.map_or(0, |height| height.saturating_sub(PANEL_PORT))
-        .min(990_000_000)
+    let Some(first) = place.first else {
+        return 0;
+    };
+    match rows.items.get(first) {
+        Some(height) => height.saturating_sub(PANEL_PORT).min(990_000_000),
+        None => 0,
+    }
+}
+
+/// Adds a panel, with a space below it.
+fn add_panel(board: &mut Board, panel: &Panel, size: &Size) -> Result<(), AllocError>
+    requires { board.old.width ≡ size.now.panel_width }
+    ensures left { board.new.left ≡ board.old.left }
+    ensures width { board.new.width ≡ board.old.width }
+    ensures start { board.new.start ≡ board.old.start }
+    ensures more { OnOk result (board.new.below ≤ 1_000_000_000 → board.old.below + 12 ≤ board.new.below) }
+{
+    let kind = if panel.is_grant {
+        FrameKind::Grant
+    } else {
+        FrameKind::NoGrant
+    };
+    let block = panel_block(*board.frames.allocator(), panel, size)?;
+    board.add(kind, BOX_INSET, block)?;
+    board.space(12);
+    Ok(())
 }
 
 /// Adds the panels in their order; on a wide picture each at the height of its first row if there is room. Gives the heights of their wires. A board that is too high
@@ -170,14 +203,7 @@ pub fn add_panels(
         );
         board.move_to(top);
         arrivals.push(place.panel, top + PANEL_PORT)?;
-        let kind = if panel.is_grant {
-            FrameKind::Grant
-        } else {
-            FrameKind::NoGrant
-        };
-        let block = panel_block(alloc, panel, size)?;
-        board.add(kind, BOX_INSET, block)?;
-        board.space(12);
+        add_panel(board, panel, size)?;
     }
     Ok(arrivals)
 }

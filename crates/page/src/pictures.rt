@@ -4,7 +4,7 @@ use crate::sentences::{Piece, Tone};
 use texts::Name;
 
 /// Where a row's wire leads.
-#[derive(Clone, Copy, PartialEq, Eq)]
+#[derive(Clone, Copy)]
 pub enum Target {
     /// To a panel, counted from 0.
     Panel(usize),
@@ -38,7 +38,7 @@ pub struct Row {
 }
 
 /// Which half of a program a box is.
-#[derive(Clone, Copy, PartialEq, Eq)]
+#[derive(Clone, Copy)]
 pub enum HalfKind {
     Outside,
     Inside,
@@ -46,6 +46,16 @@ pub enum HalfKind {
     Authority,
     /// A program that is never reached.
     Unreached,
+}
+
+impl HalfKind {
+    /// Whether it is in the mode.
+    pub(crate) fn is_inside(self) -> bool {
+        match self {
+            HalfKind::Inside | HalfKind::Authority => true,
+            HalfKind::Outside | HalfKind::Unreached => false,
+        }
+    }
 }
 
 /// A box: a program outside the mode or in it.

@@ -2,8 +2,9 @@
 
 use crate::html::{Html, Shown};
 use crate::put;
-use crate::sentences::{Tone, add_sentence};
+use crate::sentences::{Sentence, Tone};
 use crate::sheets::{Lane, Run, Step};
+use crate::wires::Point;
 
 /// How many steps are shown at most: the last ones.
 pub const MAX_STEPS: usize = 256;
@@ -14,20 +15,27 @@ const MAX_LETTERS: usize = 56;
 /// The height of a row.
 const ROW: u32 = 22;
 
+/// A number that is drawn or told.
+fn drawn(number: usize) -> u32 {
+    u32::try_from(number).unwrap_or(u32::MAX)
+}
+
 /// Where a lane stands.
 fn lane_x(lane: usize) -> u32 {
-    u32::try_from(lane)
-        .unwrap_or(u32::MAX)
-        .saturating_mul(26)
-        .saturating_add(14)
+    drawn(lane).saturating_mul(26).saturating_add(14)
 }
 
 /// Where a step stands: the middle of its row.
 fn step_y(step: usize) -> u32 {
-    u32::try_from(step)
-        .unwrap_or(u32::MAX)
-        .saturating_mul(ROW)
-        .saturating_add(ROW / 2)
+    drawn(step).saturating_mul(ROW).saturating_add(ROW / 2)
+}
+
+/// Where a lane is at a step.
+fn place_of(lane: usize, step: usize) -> Point {
+    Point {
+        x: lane_x(lane),
+        y: step_y(step),
+    }
 }
 
 /// The tone of what is done in the mode or outside it.
@@ -45,7 +53,10 @@ fn add_stretch(html: &mut Html, x: u32, from: u32, to: u32, is_inside: bool) {
 /// Adds a lane: thin outside the mode, thick inside.
 fn add_lane(html: &mut Html, number: usize, lane: Lane, height: u32) {
     let x = lane_x(number);
-    let top = lane.forked_at.map_or(0, step_y);
+    let top = match lane.forked_at {
+        Some(step) => step_y(step),
+        None => 0,
+    };
     match lane.enters_at {
         Some(step) => {
             let middle = step_y(step);
@@ -57,33 +68,35 @@ fn add_lane(html: &mut Html, number: usize, lane: Lane, height: u32) {
 }
 
 /// Adds the curve of a message, with its head.
-fn add_message(html: &mut Html, from: (u32, u32), to: (u32, u32), tone: Tone) {
+fn add_message(html: &mut Html, from: Point, to: Point, tone: Tone) {
     let class = tone.line_class();
-    let (x0, y0) = from;
-    let (x1, y1) = to;
-    let middle = x0 / 2 + x1 / 2;
-    let goes_right = x0 < x1;
-    let (tip, head) = if goes_right {
-        (x1.saturating_sub(4), x1.saturating_sub(9))
+    let (x, y) = (to.x, to.y);
+    let (tip, end, head) = if from.x < x {
+        (x.saturating_sub(4), x.saturating_sub(9), "l-7 -4v8z\"/>")
     } else {
-        (x1.saturating_add(4), x1.saturating_add(9))
+        (x.saturating_add(4), x.saturating_add(9), "l7 -4v8z\"/>")
     };
-    put!(html; "<path class=\"w ", class, "\" d=\"M", x0, " ", y0, "C", middle, " ", y0, " ", middle, " ", y1, " ");
-    put!(html; head, " ", y1, "\"/><path class=\"d ", class, "\" d=\"M", tip, " ", y1);
-    put!(html; if goes_right { "l-7 -4v8z\"/>" } else { "l7 -4v8z\"/>" })
+    let middle = from.x / 2 + x / 2;
+    let leaves = Point {
+        x: middle,
+        y: from.y,
+    };
+    let arrives = Point { x: middle, y };
+    put!(html; "<path class=\"w ", class, "\" d=\"M", from, "C", leaves, " ", arrives, " ", Point { x: end, y });
+    put!(html; "\"/><path class=\"d ", class, "\" d=\"M", Point { x: tip, y }, head)
 }
 
 /// Adds what a step draws beside its lanes: the process that it makes, and the message that it takes.
 fn add_links(html: &mut Html, run: &Run, at: usize, step: &Step) {
-    let (x, y) = (lane_x(step.lane), step_y(at));
+    let own = place_of(step.lane, at);
     if let Some(child) = step.forks {
-        put!(html; "<path class=\"w ", mode_tone(step.is_inside).line_class(), "\" d=\"M", x, " ", y, "H", lane_x(child), "\"/>")
+        put!(html; "<path class=\"w ", mode_tone(step.is_inside).line_class(), "\" d=\"M", own, "H", lane_x(child), "\"/>")
     }
     if let Some(message) = step.takes {
         if let Some(sender) = run.steps.get(message.sent_at) {
             if sender.lane != step.lane {
-                let from = (lane_x(sender.lane), step_y(message.sent_at));
-                add_message(html, from, (x, y), mode_tone(message.is_descriptor))
+                let from = place_of(sender.lane, message.sent_at);
+                add_message(html, from, own, mode_tone(message.is_descriptor))
             }
         }
     }
@@ -107,9 +120,7 @@ fn lanes_width(run: &Run) -> u32 {
 
 /// Adds the lanes of a run, which are hidden from readers: the list says the same.
 fn add_lanes(html: &mut Html, run: &Run) {
-    let height = u32::try_from(run.steps.len())
-        .unwrap_or(u32::MAX)
-        .saturating_mul(ROW);
+    let height = drawn(run.steps.len()).saturating_mul(ROW);
     put!(html; "<svg width=\"", lanes_width(run), "\" height=\"", height, "\" aria-hidden=\"true\">");
     for (number, lane) in run.lanes.iter().enumerate() {
         add_lane(html, number, *lane, height);
@@ -123,9 +134,9 @@ fn add_lanes(html: &mut Html, run: &Run) {
     put!(html; "</svg>")
 }
 
-/// How many letters a text has, up to a limit.
-fn letters(text: &[u8], limit: usize) -> usize {
-    text.len().min(limit)
+/// How many letters of a text are shown.
+fn letters(text: &[u8]) -> usize {
+    text.len().min(MAX_LETTERS)
 }
 
 /// How many letters the columns of a run have at most.
@@ -146,13 +157,11 @@ fn measure(run: &Run) -> Widths {
         result: 0,
     };
     for step in &run.steps {
-        let text = letters(&step.text, MAX_LETTERS);
-        widths.who = widths.who.max(letters(&step.who, MAX_LETTERS));
+        let text = letters(&step.text);
+        widths.who = widths.who.max(letters(&step.who));
         widths.text = widths.text.max(text);
-        widths.whole = widths
-            .whole
-            .max(letters(&step.tail, MAX_LETTERS).saturating_add(text));
-        widths.result = widths.result.max(letters(&step.result, MAX_LETTERS));
+        widths.whole = widths.whole.max(letters(&step.tail).saturating_add(text));
+        widths.result = widths.result.max(letters(&step.result));
     }
     widths
 }
@@ -179,13 +188,10 @@ fn greatest_line(run: &Run) -> u32 {
 
 /// Adds a step as an item of the list.
 fn add_step(html: &mut Html, run: &Run, at: usize, step: &Step) {
-    let number = u32::try_from(at)
-        .unwrap_or(u32::MAX)
-        .saturating_add(run.left_out)
-        .saturating_add(1);
+    let number = drawn(at).saturating_add(run.left_out).saturating_add(1);
     put!(html; if at.saturating_add(1) == run.steps.len() { "<li class=\"f\">" } else { "<li>" });
-    put!(html; "<span class=\"n\">", number, "</span><span>", Shown(&step.who), "</span><a class=\"n\" href=\"#", &step.place, "\">", step.line, "</a>");
-    put!(html; "<span>", Shown(&step.text));
+    put!(html; "<span class=\"n\">", number, "</span><span>", Shown(&step.who), "</span><a class=\"n\" href=\"#", &step.place);
+    put!(html; "\">", step.line, "</a><span>", Shown(&step.text));
     if !step.tail.is_empty() {
         put!(html; "<s>", Shown(&step.tail), "</s>")
     }
@@ -199,9 +205,7 @@ fn add_step(html: &mut Html, run: &Run, at: usize, step: &Step) {
 /// Adds the steps as a list.
 fn add_steps(html: &mut Html, run: &Run) {
     let widths = measure(run);
-    let last = u32::try_from(run.steps.len())
-        .unwrap_or(u32::MAX)
-        .saturating_add(run.left_out);
+    let last = drawn(run.steps.len()).saturating_add(run.left_out);
     put!(html; "<ol style=\"--p:", lanes_width(run), "px;--t:", widths.whole.saturating_add(1), "ch;--s:", widths.text, "ch;--g:");
     put!(html; digits(last), "ch ", widths.who, "ch ", digits(greatest_line(run)), "ch;--e:", widths.result, "ch\">\n");
     for (at, step) in run.steps.iter().enumerate() {
@@ -220,7 +224,5 @@ pub(crate) fn add_run(html: &mut Html, run: &Run) {
     put!(html; "<div class=\"x\" tabindex=\"0\" role=\"group\" aria-label=\"The run, step by step\"><div class=\"run\">");
     add_lanes(html, run);
     add_steps(html, run);
-    put!(html; "</div></div>\n<p class=\"end\">");
-    add_sentence(html, &run.end);
-    put!(html; "</p></section>\n")
+    put!(html; "</div></div>\n<p class=\"end\">", Sentence(&run.end), "</p></section>\n")
 }

@@ -1,11 +1,11 @@
 //! Sentences with links in them.
 
-use crate::html::{Html, Shown};
+use crate::html::{Html, Put, Shown};
 use crate::put;
 use texts::Name;
 
 /// How something is meant: shown by a colour, and always said by words too.
-#[derive(Clone, Copy, PartialEq, Eq)]
+#[derive(Clone, Copy)]
 pub enum Tone {
     /// As it should be.
     Plain,
@@ -71,22 +71,45 @@ pub enum Piece {
 
 /// Adds a part of a sentence.
 fn add_piece(html: &mut Html, piece: &Piece) {
-    match piece {
-        Piece::Plain(words) => put!(html; Shown(words)),
-        Piece::Code(words) => put!(html; "<code>", Shown(words), "</code>"),
-        Piece::Strong(words) => put!(html; "<b>", Shown(words), "</b>"),
-        Piece::Tag(words) => put!(html; "<span class=\"tag warn\">", Shown(words), "</span>"),
-        Piece::Link(place, words) => put!(html; "<a href=\"#", place, "\">", Shown(words), "</a>"),
-        Piece::Rule(rule) => { put!(html; "<a href=\"#K", *rule, "\"><b>K", *rule, "</b></a>") }
+    let (before, words, behind) = match piece {
+        Piece::Plain(words) => ("", words, ""),
+        Piece::Code(words) => ("<code>", words, "</code>"),
+        Piece::Strong(words) => ("<b>", words, "</b>"),
+        Piece::Tag(words) => ("<span class=\"tag warn\">", words, "</span>"),
+        Piece::Link(place, words) => {
+            put!(html; "<a href=\"#", place);
+            ("\">", words, "</a>")
+        }
+        Piece::Rule(rule) => {
+            return put!(html; "<a href=\"#K", *rule, "\"><b>K", *rule, "</b></a>");
+        }
         Piece::RuleTag(rule) => {
-            put!(html; "<a class=\"tag bad\" href=\"#K", *rule, "\">K", *rule, "</a>")
+            return put!(html; "<a class=\"tag bad\" href=\"#K", *rule, "\">K", *rule, "</a>");
+        }
+    };
+    put!(html; before, Shown(words), behind)
+}
+
+/// A sentence, part by part.
+#[derive(Clone, Copy)]
+pub struct Sentence<'p>(pub &'p [Piece]);
+
+impl<'p> Put for Sentence<'p> {
+    fn put(self, html: &mut Html) {
+        for piece in self.0 {
+            add_piece(html, piece);
         }
     }
 }
 
-/// Adds a sentence.
-pub(crate) fn add_sentence(html: &mut Html, sentence: &[Piece]) {
-    for piece in sentence {
-        add_piece(html, piece);
+/// Adds sentences, each in an element.
+pub(crate) fn add_sentences(
+    html: &mut Html,
+    begin: &'static str,
+    sentences: &[Vec<Piece>],
+    end: &'static str,
+) {
+    for sentence in sentences {
+        put!(html; begin, Sentence(sentence), end)
     }
 }

@@ -6,7 +6,7 @@ use crate::sentences::{Piece, Place, Tone};
 use texts::Name;
 
 /// How an answer is coloured.
-#[derive(Clone, Copy, PartialEq, Eq)]
+#[derive(Clone, Copy)]
 pub enum Verdict {
     /// A yes.
     Yes,
@@ -129,7 +129,7 @@ pub struct OpenState {
 }
 
 /// What a number is open on.
-#[derive(Clone, Copy, PartialEq, Eq)]
+#[derive(Clone, Copy)]
 pub enum OpenKind {
     Closed,
     /// On what lies in a grant.
@@ -150,7 +150,7 @@ pub struct Change {
 }
 
 /// What kind of thing is told below a line.
-#[derive(Clone, Copy, PartialEq, Eq)]
+#[derive(Clone, Copy)]
 pub enum RemarkKind {
     /// A rule is broken.
     Finding,

@@ -3,8 +3,10 @@
 ghost use Rattle.std.specs.Prelude.{◌≡◌, ◌<◌, ◌≤◌, All, IfOk, IfSome};
 
 use crate::arrivals::Arrivals;
+use crate::html::{Html, Put};
 use crate::lanes::Classes;
 use crate::pictures::Target;
+use crate::put;
 use crate::sentences::Tone;
 use crate::stops::Stops;
 
@@ -13,6 +15,13 @@ use crate::stops::Stops;
 pub struct Point {
     pub x: u32,
     pub y: u32,
+}
+
+/// Its two numbers.
+impl Put for Point {
+    fn put(self, html: &mut Html) {
+        put!(html; self.x, " ", self.y)
+    }
 }
 
 /// A wire from one point to another by a lane.

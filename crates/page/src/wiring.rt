@@ -1,7 +1,7 @@
 //! The wires of the rows: each from its row to its panel, or to it from the first row of its class.
 
 ghost use Rattle.std.specs.Prelude.{All, IfOk, IfSome};
-ghost use Rattle.page.specs.WireViews.{ArrivesFree, HasClass, HasPanel, IsPairWire, IsPanelWire, IsWire, KeepAllApart};
+ghost use Rattle.page.specs.WireViews.{ArrivesAt, ArrivesFree, IsAmong, IsPairWire, IsPanelWire, IsWire, KeepAllApart};
 
 use crate::arrivals::Arrival;
 use crate::lanes::ClassLane;
@@ -10,97 +10,113 @@ use crate::sentences::Tone;
 use crate::wires::{Point, Ways, Wire};
 use std::alloc::{AllocError, Global};
 
-/// Where a panel stands among those that wires arrive at.
-fn arrival_of(arrivals: &[Arrival], panel: usize) -> Option<usize>
-    ensures { IfSome result (λ k. HasPanel arrivals.now k panel) }
+/// Where a panel stands among those that wires arrive at, and the height at which its wire does.
+fn arrival_of(arrivals: &[Arrival], panel: usize) -> Option<(usize, u32)>
+    ensures { IfSome result (λ found. ArrivesAt arrivals.now found.0 panel found.1) }
 {
     for (at, arrival) in arrivals.iter().enumerate() {
         if arrival.panel == panel {
-            return Some(at);
+            return Some((at, arrival.height));
         }
     }
     None
 }
 
-/// Where a class stands among the classes.
-pub fn class_of(classes: &[ClassLane], class: usize) -> Option<usize>
-    ensures { IfSome result (λ k. HasClass classes.now k class) }
+/// A class with its lane, if it is among the classes.
+pub fn class_of(classes: &[ClassLane], class: usize) -> Option<&ClassLane>
+    ensures { IfSome result (λ found. IsAmong classes.now found.now class) }
 {
-    for (at, found) in classes.iter().enumerate() {
+    for found in classes {
         if found.class == class {
-            return Some(at);
+            return Some(found);
         }
     }
     None
 }
 
-/// The wire from a row to its panel.
-fn panel_wire(ways: &Ways<'_>, row: usize, panel: usize, tone: Tone) -> Option<Wire>
+/// The wire from a row to its panel, if it leads to one.
+fn panel_wire(ways: &Ways<'_>, row: usize, tone: Tone) -> Option<Wire>
     ensures { IfSome result (IsPanelWire ways.now) }
 {
-    let net = *ways.nets.get(row)?;
-    let height = *ways.rows.items.get(row)?;
-    let place = arrival_of(&ways.arrivals.items, panel)?;
-    let arrival = *ways.arrivals.items.get(place)?;
-    let lane = ways.lanes.panel_x(place)?;
-    if net != Target::Panel(panel) {
+    let (Some(net), Some(height)) = (ways.nets.get(row), ways.rows.items.get(row)) else {
         return None;
-    }
+    };
+    let Target::Panel(panel) = *net else {
+        return None;
+    };
+    let Some((place, arrives)) = arrival_of(&ways.arrivals.items, panel) else {
+        return None;
+    };
+    let Some(lane) = ways.lanes.panel_x(place) else {
+        return None;
+    };
     Some(Wire {
-        net,
+        net: *net,
         from: Point {
             x: ways.lanes.right,
-            y: height,
+            y: *height,
         },
         lane,
         to: Point {
             x: ways.lanes.arrive,
-            y: arrival.height,
+            y: arrives,
         },
         tone,
     })
 }
 
-/// The wire from the first row of a class to another of its rows.
-fn pair_wire(ways: &Ways<'_>, row: usize, class: usize, tone: Tone) -> Option<Wire>
+/// The wire from the first row of a class to another of its rows, if it is one.
+fn pair_wire(ways: &Ways<'_>, row: usize, tone: Tone) -> Option<Wire>
     ensures { IfSome result (IsPairWire ways.now) }
 {
-    let place = class_of(&ways.classes.items, class)?;
-    let found = *ways.classes.items.get(place)?;
+    let (Some(net), Some(to)) = (ways.nets.get(row), ways.rows.items.get(row)) else {
+        return None;
+    };
+    let Target::Pair(class) = *net else {
+        return None;
+    };
+    let Some(found) = class_of(&ways.classes.items, class) else {
+        return None;
+    };
     if row <= found.first || found.last < row {
         return None;
     }
-    let net = *ways.nets.get(row)?;
-    let origin = *ways.nets.get(found.first)?;
-    let lane = ways.lanes.pair_x(found.lane)?;
-    let from = *ways.rows.items.get(found.first)?;
-    let to = *ways.rows.items.get(row)?;
-    if net != Target::Pair(class) || origin != net {
+    let (Some(origin), Some(from), Some(lane)) = (
+        ways.nets.get(found.first),
+        ways.rows.items.get(found.first),
+        ways.lanes.pair_x(found.lane),
+    ) else {
+        return None;
+    };
+    let Target::Pair(first) = *origin else {
+        return None;
+    };
+    if first != class {
         return None;
     }
     Some(Wire {
-        net,
+        net: *net,
         from: Point {
             x: ways.lanes.left,
-            y: from,
+            y: *from,
         },
         lane,
         to: Point {
             x: ways.lanes.left,
-            y: to,
+            y: *to,
         },
         tone,
     })
 }
 
 /// The wire of a row, if it has one.
-fn wire_of(ways: &Ways<'_>, row: usize, net: Target, tone: Tone) -> Option<Wire>
+fn wire_of(ways: &Ways<'_>, row: usize, tone: Tone) -> Option<Wire>
     ensures { IfSome result (IsWire ways.now) }
 {
-    match net {
-        Target::Panel(panel) => panel_wire(ways, row, panel, tone),
-        Target::Pair(class) => pair_wire(ways, row, class, tone),
-        Target::Nowhere => None,
+    match ways.nets.get(row) {
+        Some(Target::Panel(_)) => panel_wire(ways, row, tone),
+        Some(Target::Pair(_)) => pair_wire(ways, row, tone),
+        _ => None,
     }
 }
 
@@ -111,7 +127,7 @@ pub fn wires_of(alloc: Global, ways: &Ways<'_>, rows: &[&Row]) -> Result<Vec<Wir
 {
     let mut wires = Vec::new(alloc);
     for (at, row) in rows.iter().enumerate() {
-        let Some(wire) = wire_of(ways, at, row.target, row.wire) else {
+        let Some(wire) = wire_of(ways, at, row.wire) else {
             continue;
         };
         wires.push(wire)?;

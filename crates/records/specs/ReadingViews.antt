@@ -1,6 +1,5 @@
 -- What the code's reading comes to, want of memory aside.
-use Rattle.std.specs.Prelude.{◌≡◌, ℕ, Bool, List, [], ◌∷◌, Option, Some, None, Result, Ok, Err}
-use Rattle.std.specs.Borrow.{Bor}
+use Rattle.std.specs.Prelude.{◌≡◌, Bool, Option, Some, None, Result, Ok, Err}
 use Rattle.records.specs.declared.faults.LineFault.{LineFault}
 use Rattle.records.specs.declared.faults.LineFault.TheVariants as line
 use Rattle.records.specs.Readings.{WordField, Words}
@@ -18,12 +17,6 @@ Reads view (Err fault) read = FailsWords fault read
 abbrev pub Takes : {A B : Type 0} → WordField B → (A → B) → Result A LineFault → Words → Words → Type 0
 Takes field view (Ok a) before after = field before ≡ Some (view a, after)
 Takes field view (Err fault) before after = FailsWords fault (field before)
-
--- the next word, which has to be there
-abbrev pub TakesNextWord : Result (Bor (List ℕ)) LineFault → Words → Words → Type 0
-TakesNextWord (Ok word) before after = before ≡ word.now ∷ after
-TakesNextWord (Err line.Form) before after = before ≡ []
-TakesNextWord (Err line.Memory) before after = Unit {0}
 
 -- what a test finds
 abbrev pub Tests : Result Bool LineFault → Bool → Type 0

@@ -3,7 +3,7 @@
 ghost use Rattle.std.specs.Prelude.{◌≤◌, length};
 
 use crate::strace_results::note_end;
-use crate::strace_texts::{after, before, number, without_spaces};
+use crate::strace_texts::{after, before, number, same_bytes, without_spaces};
 use texts::first_part;
 
 /// A descriptor as an argument tells it, with what is noted of it: an empty note where there is none.
@@ -121,13 +121,13 @@ pub(crate) fn has_word(text: &[u8], word: &[u8]) -> bool {
     let mut start = 0;
     for (at, byte) in text.iter().enumerate() {
         if !is_word_byte(*byte) {
-            if &text[start..at] == word {
+            if same_bytes(&text[start..at], word) {
                 return true;
             }
             start = at + 1;
         }
     }
-    &text[start..] == word
+    same_bytes(&text[start..], word)
 }
 
 /// The flags by which a descriptor is made that is closed where the process goes on as another program.

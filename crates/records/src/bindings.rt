@@ -10,6 +10,7 @@ ghost use Rattle.records.specs.Readings.{Next, What, bindings_of, descriptor_of_
 use crate::entries::Binding;
 use crate::faults::LineFault;
 use crate::quoting::unquoted;
+use crate::strace_texts::same_bytes;
 use crate::taking::Rest;
 use crate::words::number;
 use rights::Side;
@@ -60,9 +61,9 @@ fn descriptor_of(word: &[u8]) -> Result<u32, LineFault>
 fn side_of(word: &[u8]) -> Result<Side, LineFault>
     ensures { Reads side_seen result (end_side_of_word word.now) }
 {
-    if word == b"a".as_slice() {
+    if same_bytes(word, b"a") {
         Ok(Side::A)
-    } else if word == b"b".as_slice() {
+    } else if same_bytes(word, b"b") {
         Ok(Side::B)
     } else {
         Err(LineFault::Form)
@@ -74,7 +75,7 @@ fn side_of(word: &[u8]) -> Result<Side, LineFault>
 fn next_step(word: &[u8]) -> Result<Step, LineFault>
     ensures { Steps result (binding_step Next word.now) }
 {
-    if word == b"bytes".as_slice() {
+    if same_bytes(word, b"bytes") {
         return Ok(Step::Awaits(Awaited::Amount));
     }
     Ok(Step::Awaits(Awaited::What(descriptor_of(word)?)))
@@ -85,7 +86,7 @@ fn next_step(word: &[u8]) -> Result<Step, LineFault>
 fn what_step(alloc: Global, descriptor: u32, word: &[u8]) -> Result<Step, LineFault>
     ensures { Steps result (binding_step (What descriptor) word.now) }
 {
-    if word == b"sock".as_slice() {
+    if same_bytes(word, b"sock") {
         return Ok(Step::Awaits(Awaited::Pair(descriptor)));
     }
     let place = unquoted(alloc, word)?;

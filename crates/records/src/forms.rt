@@ -2,6 +2,7 @@
 
 use crate::entries::Reason;
 use crate::other_rights::OtherRight;
+use crate::strace_texts::same_bytes;
 use texts::Words;
 
 /// How a call opens a file.
@@ -61,13 +62,6 @@ pub(crate) enum OnName {
     RenameAt,
 }
 
-/// How a call makes a pair.
-#[derive(Clone, Copy)]
-pub(crate) enum Pairing {
-    Sockets,
-    Pipe,
-}
-
 /// What a call does with a process.
 #[derive(Clone, Copy)]
 pub(crate) enum OnProcess {
@@ -89,7 +83,8 @@ pub(crate) enum Form {
     Streams(Streaming),
     Descriptor(OnDescriptor),
     Name(OnName),
-    Pair(Pairing),
+    /// It makes a pair, whose ends this argument tells.
+    Pair(usize),
     /// It makes a descriptor of the world.
     World,
     /// It makes an end of a connection, which comes through the descriptor that is listened on.
@@ -167,8 +162,8 @@ const UNKNOWN: &[u8] =
     mq_open mq_timedsend mq_timedreceive fanotify_init fanotify_mark perf_event_open bpf pidfd_getfd process_mrelease __cap_rights_get cap_rights_get \
     cap_fcntls_get cap_ioctls_limit cap_ioctls_get";
 
-/// What calls are, by their names.
-const FORMS: [(&[u8], Form); 82] = [
+/// The calls that work on files, descriptors and processes.
+const CALLS: [(&[u8], Form); 47] = [
     (b"open", Form::Opens(Opening::Plain)),
     (b"openat openat2", Form::Opens(Opening::At)),
     (b"creat", Form::Opens(Opening::Creat)),
@@ -222,8 +217,8 @@ const FORMS: [(&[u8], Form); 82] = [
     (b"unlinkat", Form::Name(OnName::RemoveAt)),
     (b"rename", Form::Name(OnName::Rename)),
     (b"renameat renameat2", Form::Name(OnName::RenameAt)),
-    (b"socketpair", Form::Pair(Pairing::Sockets)),
-    (b"pipe pipe2", Form::Pair(Pairing::Pipe)),
+    (b"socketpair", Form::Pair(3)),
+    (b"pipe pipe2", Form::Pair(0)),
     (
         b"socket epoll_create epoll_create1 eventfd eventfd2 timerfd_create inotify_init inotify_init1 memfd_create signalfd signalfd4 kqueue pidfd_open userfaultfd",
         Form::World,
@@ -243,6 +238,10 @@ const FORMS: [(&[u8], Form); 82] = [
     (b"cap_getmode", Form::Process(OnProcess::GetMode)),
     (b"mmap mmap2", Form::Map),
     (b"poll ppoll select _newselect pselect6", Form::Waits),
+];
+
+/// Those that want a right which is none of the fourteen, or are left out.
+const OTHERS: [(&[u8], Form); 35] = [
     (b"getdents getdents64", Form::Wants(OtherRight::Read, 0)),
     (
         b"epoll_wait epoll_pwait epoll_pwait2",
@@ -293,24 +292,37 @@ const FORMS: [(&[u8], Form); 82] = [
 fn is_among(names: &[u8], name: &[u8]) -> bool {
     let mut words = Words::new(names);
     while let Some(word) = words.take() {
-        if word == name {
+        if same_bytes(word, name) {
             return true;
         }
     }
     false
 }
 
-/// What a call is by these forms.
-fn form_among(forms: &[(&[u8], Form)], name: &[u8]) -> Form {
+/// What a call is by these forms, if it is one of them.
+fn form_among(forms: &[(&[u8], Form)], name: &[u8]) -> Option<Form> {
     for (names, form) in forms {
         if is_among(names, name) {
-            return *form;
+            return Some(*form);
         }
     }
-    Form::LeftOut(Reason::Name)
+    None
+}
+
+/// What a call is that works on files, descriptors and processes.
+fn call_of(name: &[u8]) -> Option<Form> {
+    form_among(&CALLS, name)
+}
+
+/// What another call is that is known.
+fn other_of(name: &[u8]) -> Option<Form> {
+    form_among(&OTHERS, name)
 }
 
 /// What a call is, by its name.
 pub(crate) fn form_of(name: &[u8]) -> Form {
-    form_among(&FORMS, name)
+    if let Some(form) = call_of(name) {
+        return form;
+    }
+    other_of(name).unwrap_or(Form::LeftOut(Reason::Name))
 }

@@ -1,6 +1,6 @@
 //! What is known where a process makes a call: the process, and the places and the pairs of sockets that the record has told.
 
-ghost use Rattle.std.specs.Prelude.{◌≡◌, IfOk, IfSome, OnOk, map, true};
+ghost use Rattle.std.specs.Prelude.{◌≡◌, IfOk, OnOk, map, true};
 ghost use Rattle.std.specs.List.{list_all};
 ghost use Rattle.records.specs.Calls.{is_binding};
 ghost use Rattle.records.specs.EntryViews.{binding_seen};
@@ -180,28 +180,12 @@ impl Known {
         if let Some(place) = place_note(note) {
             return Some(unescaped(self.alloc, place));
         }
-        let mut place = Page::new(self.alloc);
-        place.page(self.place_of(kept)?);
-        Some(place)
-    }
-
-    /// What a descriptor is, as far as it is known.
-    fn binding_of(&self, mention: Mention<'_>) -> Result<Option<Binding>, AllocError>
-        ensures { IfOk result (λ binding. IfSome binding (λ b. is_binding (binding_seen b) ≡ true)) }
-    {
-        let descriptor = mention.number;
-        let kept = self.told(self.process.table.kept(descriptor), mention.note);
-        if let Kept::End(pair, side) = kept {
-            return Ok(Some(Binding::End {
-                descriptor,
-                pair,
-                side,
-            }));
-        }
-        let Some(place) = self.told_place(kept, mention.note) else {
-            return Ok(None);
+        let Some(known) = self.place_of(kept) else {
+            return None;
         };
-        Ok(Some(place_binding(descriptor, place.into_bytes()?)))
+        let mut place = Page::new(self.alloc);
+        place.page(known);
+        Some(place)
     }
 
     /// Adds what a descriptor is, if there is one and it is known.
@@ -216,8 +200,16 @@ impl Known {
         let Some(mention) = mention else {
             return Ok(());
         };
-        if let Some(binding) = self.binding_of(mention)? {
-            bindings.push(binding)?;
+        let descriptor = mention.number;
+        let kept = self.told(self.process.table.kept(descriptor), mention.note);
+        if let Kept::End(pair, side) = kept {
+            bindings.push(Binding::End {
+                descriptor,
+                pair,
+                side,
+            })?;
+        } else if let Some(place) = self.told_place(kept, mention.note) {
+            bindings.push(place_binding(descriptor, place.into_bytes()?))?;
         }
         Ok(())
     }

@@ -6,7 +6,7 @@ use crate::known::About;
 use crate::real_calls::Given;
 use crate::runs::Run;
 use crate::seen_calls::SeenCall;
-use crate::strace_texts::{after, between, without_spaces};
+use crate::strace_texts::{after, between, same_bytes, without_spaces};
 use rights::Call;
 use std::alloc::Global;
 use texts::{Page, first_part};
@@ -25,7 +25,7 @@ const SPELLINGS: [(&[u8], &[u8]); 4] = [
 /// A name of a right or a command, by these spellings.
 fn spelt<'t>(spellings: &[(&'t [u8], &'t [u8])], name: &'t [u8]) -> &'t [u8] {
     for (own, spelling) in spellings {
-        if name == *own {
+        if same_bytes(name, own) {
             return spelling;
         }
     }

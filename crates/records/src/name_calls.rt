@@ -1,5 +1,9 @@
 //! Calls that work by a name, as calls.
 
+ghost use Rattle.std.specs.Prelude.{◌≡◌, [], ◌∷◌};
+ghost use Rattle.rights.specs.Views.{call_of};
+ghost use Rattle.records.specs.Calls.{A_number, A_path, operand_kinds};
+
 use crate::argument_values::{Mention, has_word, here_note};
 use crate::entries::{Outcome, Reason};
 use crate::forms::OnName;
@@ -7,6 +11,7 @@ use crate::known::About;
 use crate::real_calls::Given;
 use crate::runs::Run;
 use crate::seen_calls::SeenCall;
+use crate::strace_texts::same_bytes;
 use crate::targets::{AT, HERE, NEW_AT, NEW_HERE, Naming, Target};
 use rights::{Call, Errno};
 use std::alloc::Global;
@@ -21,24 +26,23 @@ const ROOT: Mention<'static> = Mention {
 /// Whether a status is asked of a descriptor itself: by an empty name.
 fn is_of_itself(seen: &SeenCall<'_>) -> bool {
     let name = seen.argument(1);
-    let is_unnamed = matches!(name, [b'"', b'"']) || has_word(name, b"NULL");
+    let is_unnamed = same_bytes(name, b"\"\"") || has_word(name, b"NULL");
     let may_be_unnamed = seen.has(2, b"AT_EMPTY_PATH") || seen.has(3, b"AT_EMPTY_PATH");
     is_unnamed && may_be_unnamed && here_note(seen.argument(0)).is_none()
 }
 
-/// What a node is.
-fn add_status(run: &mut Run, seen: &SeenCall<'_>, target: &Target<'_>) {
+/// A call that is given a path alone: this one by a place, and the other one beneath a directory's descriptor.
+fn add_at(run: &mut Run, seen: &SeenCall<'_>, call: Call, beneath: Call, target: &Target<'_>)
+    requires call { operand_kinds (call_of call) ≡ A_path ∷ [] }
+    requires beneath { operand_kinds (call_of beneath) ≡ A_number ∷ A_path ∷ [] }
+{
+    let path = Given::Path(&target.path);
     match target.base {
-        None => run.add_at(seen, Call::Stat, &target.path),
-        Some(base) => run.add_beneath(seen, Call::Fstatat, base, &target.path),
-    }
-}
-
-/// A new directory.
-fn add_directory(run: &mut Run, seen: &SeenCall<'_>, target: &Target<'_>) {
-    match target.base {
-        None => run.add_at(seen, Call::Mkdir, &target.path),
-        Some(base) => run.add_beneath(seen, Call::Mkdirat, base, &target.path),
+        None => run.add(seen, call, &[path], seen.outcome, About::nothing()),
+        Some(base) => {
+            let given = [Given::Number(base.number), path];
+            run.add(seen, beneath, &given, seen.outcome, About::one(base));
+        }
     }
 }
 
@@ -139,30 +143,32 @@ fn does_more(seen: &SeenCall<'_>) -> bool {
 
 /// Takes a rename, if it does no more than replace.
 fn take_rename(run: &mut Run, seen: &SeenCall<'_>, source: Naming, target: Naming) {
-    let source = run.known.target(seen, source);
-    let target = run.known.target(seen, target);
-    match (&source, &target) {
-        (Some(source), Some(target)) => rename(run, seen, source, target),
-        _ => run.omit(seen, Reason::Unknown),
-    }
+    let Some(source) = run.known.target(seen, source) else {
+        return run.omit(seen, Reason::Unknown);
+    };
+    let Some(target) = run.known.target(seen, target) else {
+        return run.omit(seen, Reason::Unknown);
+    };
+    rename(run, seen, &source, &target);
 }
 
 /// Adds a call that works by one name, which stands at this.
 fn add_named(run: &mut Run, seen: &SeenCall<'_>, form: OnName, target: &Target<'_>) {
     match form {
-        OnName::MakeDirectory | OnName::MakeDirectoryAt => add_directory(run, seen, target),
+        OnName::MakeDirectory | OnName::MakeDirectoryAt => {
+            add_at(run, seen, Call::Mkdir, Call::Mkdirat, target)
+        }
         OnName::Remove => add_removal(run, seen, target, false),
         OnName::RemoveDirectory => add_removal(run, seen, target, true),
         OnName::RemoveAt => add_removal(run, seen, target, seen.has(2, b"AT_REMOVEDIR")),
-        _ => add_status(run, seen, target),
+        _ => add_at(run, seen, Call::Stat, Call::Fstatat, target),
     }
 }
 
 /// Takes a call that works by one name.
 fn take_named(run: &mut Run, seen: &SeenCall<'_>, form: OnName, naming: Naming) {
-    let target = run.known.target(seen, naming);
-    match &target {
-        Some(target) => add_named(run, seen, form, target),
+    match run.known.target(seen, naming) {
+        Some(target) => add_named(run, seen, form, &target),
         None => run.omit(seen, Reason::Unknown),
     }
 }

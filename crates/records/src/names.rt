@@ -10,6 +10,7 @@ ghost use Rattle.records.specs.ReadingViews.{Reads};
 
 use crate::entries::Reason;
 use crate::faults::LineFault;
+use crate::strace_texts::same_bytes;
 use rights::{Call, Errno};
 
 /// All calls.
@@ -84,7 +85,7 @@ fn call_among(calls: &[Call], word: &[u8]) -> Result<Call, LineFault>
     ensures { Reads call_of result (named_by call_name (map call_of calls.now) word.now) }
 {
     for call in calls {
-        if word == call.name().as_bytes() {
+        if same_bytes(word, call.name().as_bytes()) {
             return Ok(*call);
         }
     }
@@ -104,7 +105,7 @@ fn error_among(errors: &[Errno], word: &[u8]) -> Result<Errno, LineFault>
     ensures { Reads errno_of result (named_by errno_name (map errno_of errors.now) word.now) }
 {
     for error in errors {
-        if word == error.name().as_bytes() {
+        if same_bytes(word, error.name().as_bytes()) {
             return Ok(*error);
         }
     }
@@ -137,7 +138,7 @@ fn reason_among(reasons: &[Reason], word: &[u8]) -> Result<Reason, LineFault>
     ensures { Reads reason_seen result (named_by reason_name (map reason_seen reasons.now) word.now) }
 {
     for reason in reasons {
-        if word == reason.name().as_bytes() {
+        if same_bytes(word, reason.name().as_bytes()) {
             return Ok(*reason);
         }
     }

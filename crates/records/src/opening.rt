@@ -8,6 +8,7 @@ use crate::known::About;
 use crate::real_calls::Given;
 use crate::runs::Run;
 use crate::seen_calls::SeenCall;
+use crate::strace_texts::same_bytes;
 use crate::targets::{AT, HERE, Target};
 use rights::{Call, OpenFlags};
 
@@ -34,7 +35,7 @@ const ASKED_MORE: [(&[u8], &[u8]); 3] = [
 /// Whether an open with these flags fails for one of those.
 fn is_asked_more(asked: &[(&[u8], &[u8])], flags: &[u8], error: &[u8]) -> bool {
     for (flag, brought) in asked {
-        if error == *brought && has_word(flags, flag) {
+        if same_bytes(error, brought) && has_word(flags, flag) {
             return true;
         }
     }

@@ -28,42 +28,18 @@ pub(crate) enum OtherRight {
     Listen,
     Lookup,
     Mknodat,
-    Mmap(Protection),
+    Mmap,
+    MmapRead,
+    MmapWrite,
+    MmapExecute,
+    MmapReadWrite,
+    MmapReadExecute,
+    MmapWriteExecute,
+    MmapAll,
     Setsockopt,
     Shutdown,
     ExtattrGet,
     ExtattrSet,
-}
-
-/// What a mapping is for.
-#[derive(Clone, Copy)]
-pub(crate) enum Protection {
-    Nothing,
-    Read,
-    Write,
-    Execute,
-    ReadWrite,
-    ReadExecute,
-    WriteExecute,
-    All,
-}
-
-impl Protection {
-    /// The name of the right, without `CAP_`.
-    fn name(self) -> &'static str
-        ensures { is_call_name result.now ≡ true }
-    {
-        match self {
-            Protection::Nothing => "MMAP",
-            Protection::Read => "MMAP_R",
-            Protection::Write => "MMAP_W",
-            Protection::Execute => "MMAP_X",
-            Protection::ReadWrite => "MMAP_RW",
-            Protection::ReadExecute => "MMAP_RX",
-            Protection::WriteExecute => "MMAP_WX",
-            Protection::All => "MMAP_RWX",
-        }
-    }
 }
 
 impl OtherRight {
@@ -94,7 +70,14 @@ impl OtherRight {
             OtherRight::Listen => "LISTEN",
             OtherRight::Lookup => "LOOKUP",
             OtherRight::Mknodat => "MKNODAT",
-            OtherRight::Mmap(protection) => protection.name(),
+            OtherRight::Mmap => "MMAP",
+            OtherRight::MmapRead => "MMAP_R",
+            OtherRight::MmapWrite => "MMAP_W",
+            OtherRight::MmapExecute => "MMAP_X",
+            OtherRight::MmapReadWrite => "MMAP_RW",
+            OtherRight::MmapReadExecute => "MMAP_RX",
+            OtherRight::MmapWriteExecute => "MMAP_WX",
+            OtherRight::MmapAll => "MMAP_RWX",
             OtherRight::Setsockopt => "SETSOCKOPT",
             OtherRight::Shutdown => "SHUTDOWN",
             OtherRight::ExtattrGet => "EXTATTR_GET",

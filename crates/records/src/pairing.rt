@@ -2,7 +2,6 @@
 
 use crate::argument_values::{Mention, closes_on_exec, first_listed, next_listed};
 use crate::entries::{Outcome, Reason};
-use crate::forms::Pairing;
 use crate::held::{Kept, WORLD};
 use crate::known::About;
 use crate::other_rights::OtherRight;
@@ -14,16 +13,6 @@ use rights::{Call, Errno, Side};
 const FLAGS: usize = 1;
 
 const CONNECTION_FLAGS: usize = 3;
-
-impl Pairing {
-    /// Which argument has both ends.
-    fn ends(self) -> usize {
-        match self {
-            Pairing::Sockets => 3,
-            Pairing::Pipe => 0,
-        }
-    }
-}
 
 /// Makes an end of a pair known.
 fn hold_end(run: &mut Run, end: Mention<'_>, kept: Kept, closes_on_exec: bool) {
@@ -52,20 +41,16 @@ fn add_pair(run: &mut Run, seen: &SeenCall<'_>, first: Mention<'_>, second: Ment
     }
 }
 
-/// The ends of a pair, if both are told.
-fn ends_of<'t>(seen: &SeenCall<'t>, pairing: Pairing) -> Option<(Mention<'t>, Mention<'t>)> {
-    let first = first_listed(seen.argument(pairing.ends()))?;
-    let second = next_listed(first.behind)?;
-    Some((first.mention, second.mention))
-}
-
-/// Takes a call that makes a pair.
-pub(crate) fn take(run: &mut Run, seen: &SeenCall<'_>, pairing: Pairing) {
+/// Takes a call that makes a pair, whose ends are listed in this argument.
+pub(crate) fn take(run: &mut Run, seen: &SeenCall<'_>, ends: usize) {
     if !seen.succeeds() {
         return run.add_alone(seen, Call::Socketpair, seen.outcome);
     }
-    match ends_of(seen, pairing) {
-        Some((first, second)) => add_pair(run, seen, first, second),
+    let Some(first) = first_listed(seen.argument(ends)) else {
+        return run.omit(seen, Reason::Unknown);
+    };
+    match next_listed(first.behind) {
+        Some(second) => add_pair(run, seen, first.mention, second.mention),
         None => run.omit(seen, Reason::Unknown),
     }
 }

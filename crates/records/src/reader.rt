@@ -14,6 +14,7 @@ use crate::runs::Run;
 use crate::seen_calls::SeenCall;
 use crate::strace::{StraceLine, Told};
 use crate::strace_results::{Answer, CallResult};
+use crate::strace_texts::same_bytes;
 use crate::taken_calls;
 use std::alloc::{AllocError, Global};
 use std::collections::BTreeMap;
@@ -206,7 +207,7 @@ impl<'t> Reader<'t> {
     /// The call of this name that a thread has begun, which it is at no longer.
     fn take_begun(&mut self, thread: u32, name: &[u8]) -> Option<Begun<'t>> {
         match self.begun.get(&thread) {
-            Some(begun) if begun.name == name => self.begun.remove(&thread),
+            Some(begun) if same_bytes(begun.name, name) => self.begun.remove(&thread),
             _ => None,
         }
     }

@@ -14,6 +14,7 @@ use crate::entries::{Entry, Event};
 use crate::faults::{CallsFault, LineFault};
 use crate::line_texts::add_entry;
 use crate::names::find_call;
+use crate::strace_texts::same_bytes;
 use crate::taking::Rest;
 use crate::words::{read_left_out, read_made, take_number, take_span};
 use crate::writing::add_end;
@@ -36,14 +37,16 @@ fn end_of_process(words: &Rest<'_>) -> Result<Event, LineFault>
 fn read_event(alloc: Global, mut words: Rest<'_>) -> Result<Event, LineFault>
     ensures { Reads event_seen result (recorded_event_of words.entry) }
 {
-    let word = words.word()?;
-    if word == b"-".as_slice() {
-        return Ok(Event::Omitted(read_left_out(alloc, words)?));
+    let Some(word) = words.take() else {
+        return Err(LineFault::Form);
+    };
+    if same_bytes(word, b"-") {
+        return read_left_out(alloc, words);
     }
-    if word == b"exit".as_slice() {
+    if same_bytes(word, b"exit") {
         return end_of_process(&words);
     }
-    Ok(Event::Called(read_made(alloc, find_call(word)?, words)?))
+    read_made(alloc, find_call(word)?, words)
 }
 
 /// The words of a line.
@@ -66,7 +69,7 @@ fn is_written(page: &Page, text: &[u8]) -> Result<bool, LineFault>
     ensures whole { OnOk result (page.now.is_short ≡ false) }
     ensures text { Tests result (bytes_eq page.now.bytes.items text.now) }
 {
-    Ok(page.finish()? == text)
+    Ok(same_bytes(page.finish()?, text))
 }
 
 /// Whether a text is that of an entry.
@@ -186,7 +189,7 @@ fn read_lines(alloc: Global, mut lines: Lines<'_>) -> Result<Vec<Entry>, CallsFa
     let Some(first) = lines.next() else {
         return Err(CallsFault::Form(1));
     };
-    if !first.is_ended || first.text != b"capcalls 1".as_slice() {
+    if !first.is_ended || !same_bytes(first.text, b"capcalls 1") {
         return Err(CallsFault::Form(1));
     }
     read_entries(alloc, lines)

@@ -2,7 +2,7 @@
 
 ghost use Rattle.std.specs.Prelude.{◌≡◌, [], ◌∷◌, IfOk, map, true};
 ghost use Rattle.rights.specs.Views.{call_of};
-ghost use Rattle.records.specs.Calls.{A_number, A_path, are_calls, is_event, operand_kinds};
+ghost use Rattle.records.specs.Calls.{A_number, are_calls, is_event, operand_kinds};
 ghost use Rattle.records.specs.EntryViews.{calls_seen, event_seen};
 ghost use Rattle.records.specs.GivenViews.{given_kind};
 
@@ -15,7 +15,6 @@ use crate::real_calls::{Given, operands_of};
 use crate::seen_calls::SeenCall;
 use rights::Call;
 use std::alloc::{AllocError, Global};
-use texts::Page;
 
 /// A record as it is gone through.
 #[derive(Drop)]
@@ -152,28 +151,6 @@ impl Run {
     {
         let given = [Given::Number(mention.number), Given::Number(value)];
         self.add(seen, call, &given, outcome, About::one(mention));
-    }
-
-    /// Adds a call that is given a place.
-    pub(crate) fn add_at(&mut self, seen: &SeenCall<'_>, call: Call, place: &Page)
-        requires { operand_kinds (call_of call) ≡ A_path ∷ [] }
-    {
-        let given = [Given::Path(place)];
-        self.add(seen, call, &given, seen.outcome, About::nothing());
-    }
-
-    /// Adds a call that is given a directory's descriptor and a path.
-    pub(crate) fn add_beneath(
-        &mut self,
-        seen: &SeenCall<'_>,
-        call: Call,
-        base: Mention<'_>,
-        path: &Page,
-    )
-        requires { operand_kinds (call_of call) ≡ A_number ∷ A_path ∷ [] }
-    {
-        let given = [Given::Number(base.number), Given::Path(path)];
-        self.add(seen, call, &given, seen.outcome, About::one(base));
     }
 
     /// Adds a call through which bytes of a stream go: so many as it answers.

@@ -5,7 +5,7 @@ use crate::entries::Outcome;
 use crate::logs::{CallName, When};
 use crate::names::find_error;
 use crate::strace_results::{Answer, CallResult};
-use crate::strace_texts::{between, without_spaces};
+use crate::strace_texts::{between, same_bytes, without_spaces};
 use crate::strings::unescaped;
 use rights::Errno;
 use std::alloc::Global;
@@ -31,9 +31,9 @@ pub(crate) struct SeenCall<'t> {
 
 /// The error of this name, if it has a counterpart here. Linux's EPERM has none: it is of owners.
 fn error_named(name: &[u8]) -> Option<Errno> {
-    if name == b"EPERM".as_slice() {
+    if same_bytes(name, b"EPERM") {
         None
-    } else if name == b"ESPIPE".as_slice() {
+    } else if same_bytes(name, b"ESPIPE") {
         Some(Errno::EINVAL)
     } else {
         find_error(name).ok()

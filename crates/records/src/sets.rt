@@ -8,6 +8,7 @@ ghost use Rattle.records.specs.RowViews.{row_seen};
 ghost use Rattle.records.specs.Sets.{command_rows, flag_rows, flag_set, has_word, request_of_word, right_rows, set_of_list, set_word};
 
 use crate::faults::LineFault;
+use crate::strace_texts::same_bytes;
 use bitflags::Flags;
 use rights::{Fcntls, OpenFlags, Rights};
 use texts::{Page, Say, first_part, parts_of, say};
@@ -137,7 +138,7 @@ fn has_word(name: &str, list: &[u8]) -> bool
     let mut list = list;
     loop {
         let (first, behind) = first_part(list, b',');
-        if name.as_bytes() == first {
+        if same_bytes(name.as_bytes(), first) {
             return true;
         }
         let Some(behind) = behind else {

@@ -7,7 +7,7 @@ use crate::argument_parts::close_of;
 use crate::strace_headers::header_of;
 use crate::strace_results::{CallResult, result_of};
 use crate::strace_texts::{
-    after, before, between, is_name, number_after, place_of, without_spaces,
+    after, before, between, is_name, number_after, place_of, same_bytes, without_spaces,
 };
 use crate::truss::read_truss_line;
 use std::alloc::{AllocError, Global};
@@ -60,19 +60,19 @@ pub enum Told<'t> {
 }
 
 /// What a line between `+++ ` and ` +++` tells: how a process ended.
-fn end_of(text: &[u8]) -> Option<Told<'_>> {
+fn end_of(text: &[u8]) -> Told<'_> {
     let Some(text) = between(text, b"+++ ", b" +++") else {
-        return None;
+        return Told::Other;
     };
     if let Some(status) = number_after(text, b"exited with ") {
-        return Some(Told::Exited(status));
+        return Told::Exited(status);
     }
     if let Some(process) = number_after(text, b"superseded by execve in pid ") {
-        return Some(Told::Superseded(process));
+        return Told::Superseded(process);
     }
     match after(text, b"killed by ") {
-        Some(signal) => Some(Told::Killed(signal)),
-        None => None,
+        Some(signal) => Told::Killed(signal),
+        None => Told::Other,
     }
 }
 
@@ -88,29 +88,29 @@ fn ended(text: &[u8]) -> Option<(&[u8], CallResult<'_>)> {
 }
 
 /// What stands behind `<... `: the end of a call.
-fn resumed_of(text: &[u8]) -> Option<Told<'_>> {
+fn resumed_of(text: &[u8]) -> Told<'_> {
     let (name, Some(rest)) = first_part(text, b' ') else {
-        return None;
+        return Told::Other;
     };
     let Some(rest) = after(rest, b"resumed>") else {
-        return None;
+        return Told::Other;
     };
     match ended(rest) {
-        Some((arguments, returned)) if is_name(name) => Some(Told::Resumed {
+        Some((arguments, returned)) if is_name(name) => Told::Resumed {
             name,
             arguments,
             returned,
-        }),
-        _ => None,
+        },
+        _ => Told::Other,
     }
 }
 
 /// What a line tells that begins with `<`: the end of a call, or a remark that the end of a line before was cut off.
-fn behind_others(text: &[u8]) -> Option<Told<'_>> {
+fn behind_others(text: &[u8]) -> Told<'_> {
     match after(text, b"<... ") {
         Some(rest) => resumed_of(rest),
-        None if text == b"<unfinished ...>".as_slice() => Some(Told::Remark(text)),
-        None => None,
+        None if same_bytes(text, b"<unfinished ...>") => Told::Remark(text),
+        None => Told::Other,
     }
 }
 
@@ -129,40 +129,40 @@ fn unfinished(text: &[u8]) -> Option<&[u8]> {
 }
 
 /// A call of this name, which begins on the line before this text.
-fn begun<'t>(name: &'t [u8], rest: &'t [u8]) -> Option<Told<'t>> {
+fn begun<'t>(name: &'t [u8], rest: &'t [u8]) -> Told<'t> {
     if let Some(arguments) = unfinished(rest) {
-        return Some(Told::Unfinished { name, arguments });
+        return Told::Unfinished { name, arguments };
     }
     match ended(rest) {
-        Some((arguments, returned)) => Some(Told::Finished {
+        Some((arguments, returned)) => Told::Finished {
             name,
             arguments,
             returned,
-        }),
-        None => None,
+        },
+        None => Told::Other,
     }
 }
 
 /// A call that begins on the line.
-fn call_of(text: &[u8]) -> Option<Told<'_>> {
+fn call_of(text: &[u8]) -> Told<'_> {
     match first_part(text, b'(') {
         (name, Some(rest)) if is_name(name) => begun(name, rest),
-        _ => None,
+        _ => Told::Other,
     }
 }
 
-/// What the text behind a header tells, if it is understood.
-fn understood(text: &[u8]) -> Option<Told<'_>> {
+/// What the text behind a header tells.
+fn told_by(text: &[u8]) -> Told<'_> {
     match text {
-        [] => Some(Told::Nothing),
+        [] => Told::Nothing,
         [b'+', ..] => end_of(text),
         [b'-', ..] => match between(text, b"--- ", b" ---") {
-            Some(signal) => Some(Told::Signal(signal)),
-            None => None,
+            Some(signal) => Told::Signal(signal),
+            None => Told::Other,
         },
         [b'<', ..] => behind_others(text),
         _ => match after(text, b"strace: ") {
-            Some(remark) => Some(Told::Remark(remark)),
+            Some(remark) => Told::Remark(remark),
             None => call_of(text),
         },
     }
@@ -182,7 +182,7 @@ fn read_line(line: &[u8]) -> StraceLine<'_> {
     let header = header_of(line);
     StraceLine {
         process: header.process,
-        told: understood(without_spaces(header.rest)).unwrap_or(Told::Other),
+        told: told_by(without_spaces(header.rest)),
     }
 }
 

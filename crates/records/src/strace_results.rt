@@ -2,7 +2,7 @@
 
 ghost use Rattle.std.specs.Prelude.{◌≤◌, length};
 
-use crate::strace_texts::{after, is_name, number, without_spaces};
+use crate::strace_texts::{after, is_name, number, same_bytes, without_spaces};
 use texts::{first_part, read_hex};
 
 /// What a call came to.
@@ -82,10 +82,14 @@ fn number_answer(word: &[u8]) -> Answer<'_> {
 
 /// The answer that a word tells.
 pub(crate) fn answer_of(word: &[u8]) -> Option<Answer<'_>> {
+    if same_bytes(word, b"?") {
+        return Some(Answer::Unknown);
+    }
+    if same_bytes(word, b"-1") {
+        return Some(Answer::Failure);
+    }
     match word {
-        [b'?'] => Some(Answer::Unknown),
-        [b'-', b'1'] => Some(Answer::Failure),
-        [b'-' | b'0'..=b'9', ..] => Some(number_answer(word)),
+        [first, ..] if *first == b'-' || first.is_ascii_digit() => Some(number_answer(word)),
         _ => None,
     }
 }

@@ -2,10 +2,18 @@
 
 ghost use Rattle.std.specs.Prelude.{◌≡◌, ◌≤◌, ◌++◌, IfSome, length};
 ghost use Rattle.std.specs.List.{list_all};
+ghost use Rattle.std.specs.Str.{bytes_eq};
 ghost use Rattle.records.specs.Calls.{is_call_name, is_call_name_byte};
 
 use crate::words::has_name_bytes;
 use texts::number_up_to;
+
+/// Whether two texts have the same bytes.
+pub(crate) fn same_bytes(text: &[u8], other: &[u8]) -> bool
+    ensures { result ≡ bytes_eq text.now other.now }
+{
+    text == other
+}
 
 /// What stands behind a beginning.
 pub(crate) fn after<'t>(text: &'t [u8], beginning: &[u8]) -> Option<&'t [u8]>

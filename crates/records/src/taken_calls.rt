@@ -4,23 +4,24 @@ use crate::argument_values::{Mention, behind, first_listed, here_note, mention_o
 use crate::entries::Reason;
 use crate::forms::{Form, OnDescriptor, OnName, Opening, Streaming, form_of};
 use crate::held::Kept;
-use crate::other_rights::{OtherRight, Protection};
+use crate::other_rights::OtherRight;
 use crate::runs::Run;
 use crate::seen_calls::SeenCall;
+use crate::strace_texts::same_bytes;
 use crate::{descriptor_calls, name_calls, opening, pairing, process_calls, streaming};
 
-/// What a mapping is for. What is written into a mapping of one's own isn't written to the file.
-fn protection_of(seen: &SeenCall<'_>) -> Protection {
+/// The right that a mapping wants, by what it is for. What is written into a mapping of one's own isn't written to the file.
+fn mapping_right(seen: &SeenCall<'_>) -> OtherRight {
     let writes = seen.has(2, b"PROT_WRITE") && !seen.has(3, b"MAP_PRIVATE");
     match (seen.has(2, b"PROT_READ"), writes, seen.has(2, b"PROT_EXEC")) {
-        (false, false, false) => Protection::Nothing,
-        (true, false, false) => Protection::Read,
-        (false, true, false) => Protection::Write,
-        (false, false, true) => Protection::Execute,
-        (true, true, false) => Protection::ReadWrite,
-        (true, false, true) => Protection::ReadExecute,
-        (false, true, true) => Protection::WriteExecute,
-        (true, true, true) => Protection::All,
+        (false, false, false) => OtherRight::Mmap,
+        (true, false, false) => OtherRight::MmapRead,
+        (false, true, false) => OtherRight::MmapWrite,
+        (false, false, true) => OtherRight::MmapExecute,
+        (true, true, false) => OtherRight::MmapReadWrite,
+        (true, false, true) => OtherRight::MmapReadExecute,
+        (false, true, true) => OtherRight::MmapWriteExecute,
+        (true, true, true) => OtherRight::MmapAll,
     }
 }
 
@@ -30,7 +31,7 @@ fn take_map(run: &mut Run, seen: &SeenCall<'_>) {
     if file.is_none() || seen.has(3, b"MAP_ANONYMOUS") {
         return run.omit(seen, Reason::Quiet);
     }
-    run.want(seen, OtherRight::Mmap(protection_of(seen)), file);
+    run.want(seen, mapping_right(seen), file);
 }
 
 /// The first descriptor that a call waits for.
@@ -81,7 +82,7 @@ fn take_form(run: &mut Run, seen: &SeenCall<'_>, form: Form) {
         Form::Streams(streaming) => streaming::take(run, seen, streaming),
         Form::Descriptor(form) => descriptor_calls::take(run, seen, form),
         Form::Name(form) => name_calls::take(run, seen, form),
-        Form::Pair(pairing) => pairing::take(run, seen, pairing),
+        Form::Pair(ends) => pairing::take(run, seen, ends),
         Form::World => pairing::take_world(run, seen),
         Form::Connection => pairing::take_connection(run, seen),
         Form::Process(form) => process_calls::take(run, seen, form),
@@ -110,7 +111,7 @@ pub(crate) fn take(run: &mut Run, seen: &SeenCall<'_>) {
         if is_of_loader(form) {
             return run.omit(seen, Reason::Loader);
         }
-        if !may_be_of_loader(form) || seen.name.bytes == b"set_tid_address".as_slice() {
+        if !may_be_of_loader(form) || same_bytes(seen.name.bytes, b"set_tid_address") {
             run.known.process.is_loading = false;
         }
     }

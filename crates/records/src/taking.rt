@@ -4,10 +4,9 @@ ghost use Rattle.std.specs.Prelude.{◌≡◌, option_map};
 ghost use Rattle.texts.specs.Bytes.{space};
 ghost use Rattle.texts.specs.Parts.{parts};
 ghost use Rattle.texts.specs.Words.{IsNext, is_used_up};
-ghost use Rattle.records.specs.ReadingViews.{TakesNextWord};
 ghost use Rattle.records.specs.RestViews.{TakesIf};
 
-use crate::faults::LineFault;
+use crate::strace_texts::same_bytes;
 use std::marker::Model;
 use texts::Words;
 
@@ -41,19 +40,11 @@ impl<'t> Rest<'t> {
     pub(crate) fn take(&mut self) -> Option<&'t [u8]>
         ensures { IsNext (option_map (λ word. word.now) result) self.old self.new }
     {
-        let word = self.next?;
+        let Some(word) = self.next else {
+            return None;
+        };
         self.next = self.words.take();
         Some(word)
-    }
-
-    /// The next word, which has to be there.
-    pub(crate) fn word(&mut self) -> Result<&'t [u8], LineFault>
-        ensures { TakesNextWord result self.old self.new }
-    {
-        match self.take() {
-            Some(word) => Ok(word),
-            None => Err(LineFault::Form),
-        }
     }
 
     /// Takes the next word if it is this one.
@@ -63,7 +54,7 @@ impl<'t> Rest<'t> {
         let Some(next) = self.next else {
             return false;
         };
-        if next != keyword {
+        if !same_bytes(next, keyword) {
             return false;
         }
         self.next = self.words.take();

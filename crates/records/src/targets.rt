@@ -44,42 +44,14 @@ pub(crate) struct Target<'t> {
     pub path: Page,
 }
 
-/// From where a path is counted: a descriptor, or the current directory with what is noted of it.
-#[derive(Clone, Copy)]
-enum Base<'t> {
-    Here(&'t [u8]),
-    Beneath(Mention<'t>),
-    /// The root directory: the path is absolute.
-    Root,
-}
-
-impl Naming {
-    /// From where this path is counted, if that is told.
-    fn base<'t>(self, seen: &SeenCall<'t>, path: &[u8]) -> Option<Base<'t>> {
-        if is_absolute(path) {
-            return Some(Base::Root);
-        }
-        let Some(base) = self.base else {
-            return Some(Base::Here(b""));
-        };
-        match here_note(seen.argument(base)) {
-            Some(note) => Some(Base::Here(note)),
-            None => match seen.mention(base) {
-                Some(mention) => Some(Base::Beneath(mention)),
-                None => None,
-            },
-        }
-    }
-}
-
 /// Whether a path begins at the root.
 fn is_absolute(path: &[u8]) -> bool {
-    matches!(path, [b'/', ..])
+    path.starts_with(b"/")
 }
 
 /// Whether a place ends in a slash, as the root does.
 fn ends_in_slash(place: &[u8]) -> bool {
-    matches!(place, [.., b'/'])
+    place.ends_with(b"/")
 }
 
 /// Adds a path to a place that it is beneath.
@@ -114,8 +86,12 @@ impl Known {
         Some(place)
     }
 
-    /// The place that a path from the current directory has, if that is known: by its note, or else as it was followed.
+    /// The place that a path has which is absolute, or counted from the current directory, if that is known: by its note, or else as it was
+    /// followed.
     fn from_here(&self, note: &[u8], path: &Page) -> Option<Page> {
+        if is_absolute(path.as_bytes()) {
+            return Some(self.from_root(path));
+        }
         let Some(directory) = place_note(note) else {
             return self.beneath(self.process.directory, path);
         };
@@ -129,18 +105,19 @@ impl Known {
         let Some(path) = seen.string(self.alloc, naming.path) else {
             return None;
         };
-        let place = match naming.base(seen, path.as_bytes()) {
-            Some(Base::Beneath(mention)) => {
-                return Some(Target {
-                    base: Some(mention),
-                    path,
-                });
-            }
-            Some(Base::Root) => Some(self.from_root(&path)),
-            Some(Base::Here(note)) => self.from_here(note, &path),
-            None => None,
+        let note: &[u8] = match naming.base {
+            Some(base) if !is_absolute(path.as_bytes()) => match here_note(seen.argument(base)) {
+                Some(note) => note,
+                None => {
+                    return match seen.mention(base) {
+                        None => None,
+                        base => Some(Target { base, path }),
+                    };
+                }
+            },
+            _ => b"",
         };
-        match place {
+        match self.from_here(note, &path) {
             Some(path) => Some(Target { base: None, path }),
             None => None,
         }

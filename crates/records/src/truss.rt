@@ -18,14 +18,20 @@ fn without_blanks(text: &[u8]) -> &[u8] {
     &[]
 }
 
+/// Whether a word is a number of seconds: digits and points.
+fn are_seconds(word: &[u8]) -> bool {
+    for byte in word {
+        if !byte.is_ascii_digit() && *byte != b'.' {
+            return false;
+        }
+    }
+    !word.is_empty()
+}
+
 /// What stands behind the seconds that a text may begin with.
 fn behind_seconds(text: &[u8]) -> &[u8] {
-    let (word, behind) = first_part(text, b' ');
-    let is_time = word
-        .iter()
-        .all(|byte| byte.is_ascii_digit() || *byte == b'.');
-    match behind {
-        Some(behind) if is_time && !word.is_empty() => without_blanks(behind),
+    match first_part(text, b' ') {
+        (word, Some(behind)) if are_seconds(word) => without_blanks(behind),
         _ => text,
     }
 }
@@ -63,36 +69,36 @@ fn result_of(text: &[u8]) -> Option<CallResult<'_>> {
 }
 
 /// A call with its result.
-fn call_of(text: &[u8]) -> Option<Told<'_>> {
+fn call_of(text: &[u8]) -> Told<'_> {
     let (name, Some(rest)) = first_part(text, b'(') else {
-        return None;
+        return Told::Other;
     };
     let Some(at) = close_of(rest) else {
-        return None;
+        return Told::Other;
     };
     match result_of(&rest[at + 1..]) {
-        Some(returned) if is_name(name) => Some(Told::Finished {
+        Some(returned) if is_name(name) => Told::Finished {
             name,
             arguments: &rest[..at],
             returned,
-        }),
-        _ => None,
+        },
+        _ => Told::Other,
     }
 }
 
-/// What the text behind the process tells, if it is understood.
-fn understood(text: &[u8]) -> Option<Told<'_>> {
-    if after(text, b"<new process>").is_some() || after(text, b"<thread ").is_some() {
-        return Some(Told::Remark(text));
+/// What the text behind the process tells.
+fn told_by(text: &[u8]) -> Told<'_> {
+    if text.starts_with(b"<new process>") || text.starts_with(b"<thread ") {
+        return Told::Remark(text);
     }
     if let Some(signal) = after(text, b"SIGNAL ") {
-        return Some(Told::Signal(signal));
+        return Told::Signal(signal);
     }
     if let Some(status) = number_after(text, b"process exit, rval = ") {
-        return Some(Told::Exited(status));
+        return Told::Exited(status);
     }
     if let Some(signal) = after(text, b"process killed, signal = ") {
-        return Some(Told::Killed(signal));
+        return Told::Killed(signal);
     }
     call_of(text)
 }
@@ -108,6 +114,6 @@ pub(crate) fn read_truss_line(line: &[u8]) -> Option<StraceLine<'_>> {
     let text = behind_seconds(behind_seconds(without_blanks(text)));
     Some(StraceLine {
         process: Some(process),
-        told: understood(text).unwrap_or(Told::Other),
+        told: told_by(text),
     })
 }

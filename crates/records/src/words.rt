@@ -3,19 +3,19 @@
 ghost use Rattle.std.specs.Prelude.{◌≡◌, map};
 ghost use Rattle.std.specs.List.{list_all};
 ghost use Rattle.rights.specs.Views.{call_of};
-ghost use Rattle.records.specs.Calls.{is_call_name, is_call_name_byte};
-ghost use Rattle.records.specs.EntryViews.{left_out_seen, made_seen, outcome_seen, record_span_seen, wanted_seen};
+ghost use Rattle.records.specs.Calls.{Called, Omitted, is_call_name, is_call_name_byte};
+ghost use Rattle.records.specs.EntryViews.{event_seen, outcome_seen, record_span_seen, wanted_seen};
 ghost use Rattle.records.specs.OperandViews.{kind_seen, operand_seen};
 ghost use Rattle.records.specs.ReadingViews.{Reads, Takes};
 ghost use Rattle.records.specs.Readings.{left_out_of, made_of, real_number_at, real_operand_at, operands_at, outcome_at, read_number, read_word, record_span_at, wanted_of};
 ghost use Rattle.std.specs.Prelude.{option_map};
 
 use crate::bindings::read_bindings;
-use crate::entries::{LeftOut, MadeCall, Outcome, Span, WantedRight};
+use crate::entries::{Event, LeftOut, MadeCall, Outcome, Span, WantedRight};
 use crate::faults::LineFault;
 use crate::operands::{Kind, Operand, operand_kinds};
 use crate::quoting::unquoted;
-use crate::strace_texts::is_name;
+use crate::strace_texts::{is_name, same_bytes};
 use crate::taking::Rest;
 use crate::{names, sets};
 use rights::Call;
@@ -37,7 +37,10 @@ pub(crate) fn number(word: &[u8]) -> Result<u32, LineFault>
 pub(crate) fn take_number(words: &mut Rest<'_>) -> Result<u32, LineFault>
     ensures { Takes real_number_at (λ number. number) result words.old words.new }
 {
-    number(words.word()?)
+    let Some(word) = words.take() else {
+        return Err(LineFault::Form);
+    };
+    number(word)
 }
 
 /// The next words, as an operand of this kind.
@@ -48,7 +51,9 @@ fn take_operand(alloc: Global, words: &mut Rest<'_>, kind: Kind) -> Result<Opera
     if let Kind::Directory = kind {
         return Ok(Operand::Directory(words.take_if(b"dir")));
     }
-    let word = words.word()?;
+    let Some(word) = words.take() else {
+        return Err(LineFault::Form);
+    };
     match kind {
         Kind::Number => Ok(Operand::Number(number(word)?)),
         Kind::Path => Ok(Operand::Path(unquoted(alloc, word)?)),
@@ -77,11 +82,15 @@ fn take_operands(alloc: Global, words: &mut Rest<'_>, call: Call) -> Result<Vec<
 fn take_outcome(words: &mut Rest<'_>) -> Result<Outcome, LineFault>
     ensures { Takes outcome_at outcome_seen result words.old words.new }
 {
-    let mark = words.word()?;
-    let word = words.word()?;
-    if mark == b"=".as_slice() {
+    let Some(mark) = words.take() else {
+        return Err(LineFault::Form);
+    };
+    let Some(word) = words.take() else {
+        return Err(LineFault::Form);
+    };
+    if same_bytes(mark, b"=") {
         Ok(Outcome::Success(number(word)?))
-    } else if mark == b"!".as_slice() {
+    } else if same_bytes(mark, b"!") {
         Ok(Outcome::Failure(names::find_error(word)?))
     } else {
         Err(LineFault::Form)
@@ -90,23 +99,19 @@ fn take_outcome(words: &mut Rest<'_>) -> Result<Outcome, LineFault>
 
 /// The words behind a call's name.
 #[tactic(auto, unfolding(crate::specs::Readings::made_of))]
-pub(crate) fn read_made(
-    alloc: Global,
-    call: Call,
-    mut words: Rest<'_>,
-) -> Result<MadeCall, LineFault>
-    ensures { Reads made_seen result (made_of (call_of call) words.entry) }
+pub(crate) fn read_made(alloc: Global, call: Call, mut words: Rest<'_>) -> Result<Event, LineFault>
+    ensures { Reads event_seen result (option_map Called (made_of (call_of call) words.entry)) }
 {
     let operands = take_operands(alloc, &mut words, call)?;
     let outcome = take_outcome(&mut words)?;
     let bound = read_bindings(alloc, words)?;
-    Ok(MadeCall {
+    Ok(Event::Called(MadeCall {
         call,
         operands,
         outcome,
         bindings: bound.bindings,
         bytes: bound.bytes,
-    })
+    }))
 }
 
 /// Whether a byte may stand in a name.
@@ -157,17 +162,23 @@ fn read_wanted(alloc: Global, mut words: Rest<'_>) -> Result<Option<WantedRight>
 
 /// The words behind `-`.
 #[tactic(auto, unfolding(crate::specs::Readings::left_out_of))]
-pub(crate) fn read_left_out(alloc: Global, mut words: Rest<'_>) -> Result<LeftOut, LineFault>
-    ensures { Reads left_out_seen result (left_out_of words.entry) }
+pub(crate) fn read_left_out(alloc: Global, mut words: Rest<'_>) -> Result<Event, LineFault>
+    ensures { Reads event_seen result (option_map Omitted (left_out_of words.entry)) }
 {
-    let reason = names::find_reason(words.word()?)?;
-    let name = read_name(alloc, words.word()?)?;
+    let Some(reason) = words.take() else {
+        return Err(LineFault::Form);
+    };
+    let Some(name) = words.take() else {
+        return Err(LineFault::Form);
+    };
+    let reason = names::find_reason(reason)?;
+    let name = read_name(alloc, name)?;
     let wanted = read_wanted(alloc, words)?;
-    Ok(LeftOut {
+    Ok(Event::Omitted(LeftOut {
         reason,
         name,
         wanted,
-    })
+    }))
 }
 
 /// The next words, as a span.

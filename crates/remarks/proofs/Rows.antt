@@ -13,14 +13,14 @@ use Rattle.remarks.specs.Remarks.{doubled, idle, skipping, strays, unsettled}
 use Rattle.remarks.specs.TaskRemarks.{lone_sides}
 use Rattle.remarks.specs.Warnings.{calls_ahead, goes_on_closing, has_more, leads_out, starts_listable, takes_directory_at}
 use Rattle.lookup.specs.Paths.{is_absolute}
-use Rattle.remarks.specs.Ways.{from_which, within_steps}
+use Rattle.remarks.specs.Ways.{from_which, rounds}
 use Rattle.task.specs.Policies.{grant_named}
 use Rattle.task.specs.Plans.{FirstDescriptor, On_end, On_node, Plan, Start, plan_with, unmarked}
 
 -- ## From where points come
 -- the last point comes from the first through the third, and not from the second, which ends
 comes_from : from_which (Jmp 2 ∷ Halt ∷ Jmp 3 ∷ Halt ∷ []) (false ∷ false ∷ false ∷ true ∷ []) ≡ true ∷ false ∷ true ∷ true ∷ []
-unfolding within_steps
+unfolding rounds
 comes_from = refl
 
 -- ## Bounds with two slots
@@ -70,25 +70,25 @@ abbrev outside : Option Bound
 outside = bound Off file Closed
 
 is_unsettled_marked : unsettled_marked may_skip (outside ∷ outside ∷ outside ∷ outside ∷ []) ≡ 2 ∷ []
-unfolding within_steps
+unfolding rounds
 is_unsettled_marked = refl
 
 is_skipped_marked : skipping_marked may_skip (outside ∷ outside ∷ outside ∷ outside ∷ []) ≡ 0 ∷ []
-unfolding within_steps
+unfolding rounds
 is_skipped_marked = refl
 
 -- Where all enter, no point behind has a bound; and one that only ends doesn't count.
 all_enter_marked : unsettled_marked (Invoke Cap_enter 1 ∷ Invoke (Read (Number 0)) 2 ∷ Halt ∷ []) (outside ∷ None ∷ None ∷ []) ≡ []
-unfolding within_steps
+unfolding rounds
 all_enter_marked = refl
 
 ends_marked : unsettled_marked (Jeq 0 7 3 ∷ Invoke Cap_enter 3 ∷ Invoke (Read (Number 0)) 3 ∷ Halt ∷ []) (outside ∷ outside ∷ None ∷ outside ∷ []) ≡ []
-unfolding within_steps
+unfolding rounds
 ends_marked = refl
 
 -- A way that doesn't come back to where others are in the mode skips nothing.
 parts_marked : unsettled_marked (Jeq 0 7 3 ∷ Invoke Cap_enter 2 ∷ Halt ∷ Invoke (Read (Number 0)) 4 ∷ Halt ∷ []) (outside ∷ outside ∷ None ∷ outside ∷ outside ∷ []) ≡ []
-unfolding within_steps
+unfolding rounds
 parts_marked = refl
 
 -- The mode is entered with both numbers, and the first alone is read from there on.
@@ -99,11 +99,11 @@ abbrev both_open : List (Option Bound)
 both_open = bound Off file file ∷ bound On file file ∷ bound On file file ∷ []
 
 second_is_idle : idle enter_then_read both_open 1 ≡ 1 ∷ []
-unfolding within_steps
+unfolding rounds
 second_is_idle = refl
 
 first_is_not : idle enter_then_read both_open 0 ≡ []
-unfolding within_steps
+unfolding rounds
 first_is_not = refl
 
 -- Both ends of a pair are kept, or one is closed.
@@ -111,15 +111,15 @@ abbrev side : ℕ → Slot
 side s = Open (held (Socket (Initial 0) s) read_right 0)
 
 kept : doubled read_then_halt (bound On (side 0) (side 1) ∷ bound On (side 0) (side 1) ∷ []) 0 1 ≡ 0 ∷ []
-unfolding within_steps
+unfolding rounds
 kept = refl
 
 one_closed : doubled (Invoke (Close (Number 1)) 1 ∷ Halt ∷ []) (bound On (side 0) (side 1) ∷ bound On (side 0) Closed ∷ []) 0 1 ≡ []
-unfolding within_steps
+unfolding rounds
 one_closed = refl
 
 one_side_twice : doubled read_then_halt (bound On (side 0) (side 0) ∷ bound On (side 0) (side 0) ∷ []) 0 1 ≡ []
-unfolding within_steps
+unfolding rounds
 one_side_twice = refl
 
 -- ## First processes
@@ -157,11 +157,11 @@ name_stays = refl
 
 -- The error of closing leads to a call, or to a halt alone.
 close_goes_on : goes_on_closing (calls_ahead (Invoke (Close (Number 0)) 1 ∷ Invoke (Read (Number 0)) 2 ∷ Halt ∷ [])) (Invoke (Close (Number 0)) 1) ≡ true
-unfolding within_steps
+unfolding rounds
 close_goes_on = refl
 
 close_ends : goes_on_closing (calls_ahead (Invoke (Close (Number 0)) 2 ∷ Invoke (Read (Number 0)) 2 ∷ Halt ∷ [])) (Invoke (Close (Number 0)) 2) ≡ false
-unfolding within_steps
+unfolding rounds
 close_ends = refl
 
 all_is_more : has_more (held Any_node all_rights 0) ≡ true

@@ -1,5 +1,6 @@
 pub mod Ways
 pub mod Remarks
+pub mod Listed
 pub mod RemarkViews
 pub mod TaskRemarks
 pub mod Warnings

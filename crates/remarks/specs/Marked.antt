@@ -1,5 +1,5 @@
 -- What is remarked on a marked program, whose bounds say what is so outside the mode alone: where a way skips cap_enter. (own)
-use Rattle.std.specs.Prelude.{◌&&◌, ◌==◌, not, ℕ, Bool, List, Option, filter, map}
+use Rattle.std.specs.Prelude.{◌&&◌, not, ℕ, Bool, List, Option, filter, map}
 use Rattle.std.specs.List.{list_any}
 use Rattle.certificate.specs.Bounds.{Bound}
 use Rattle.instruction_set.specs.Programs.{Instruction}
@@ -7,15 +7,11 @@ use Rattle.instruction_set.specs.Successors.{successors_at}
 use Rattle.rules.specs.Outcomes.{enters_mode}
 use Rattle.remarks.specs.Remarks.{bound_here, has_mode, is_halt, is_there}
 use Rattle.remarks.specs.Warnings.{may_be_off}
-use Rattle.remarks.specs.Ways.{from_which, is_flagged, points}
+use Rattle.remarks.specs.Ways.{from_which, is_flagged, only, points}
 
 -- a process may be there outside the mode
 abbrev pub is_outside_at : List (Option Bound) → ℕ → Bool
 is_outside_at bounds point = has_mode may_be_off (bound_here bounds point)
-
--- the flags of points of which one alone is set
-abbrev pub only : List Instruction → ℕ → List Bool
-only code point = map (λ (other : ℕ). other == point) (points code)
 
 -- A process enters the mode there, and goes on to a flagged point.
 abbrev pub enters_and_leads : List Instruction → List (Option Bound) → List Bool → ℕ → Bool

@@ -163,6 +163,9 @@ abbrev pub are_both : Option Held → Option Held → Bool
 are_both (Some h) (Some g) = are_sides h.target g.target
 are_both _ _ = false
 
+abbrev pub has_both : List (Option Bound) → DescriptorNumber → DescriptorNumber → ℕ → Bool
+has_both bounds n m point = are_both (held_here bounds n point) (held_here bounds m point)
+
 abbrev pub may_close : DescriptorNumber → Option Bound → Instruction → Bool
 may_close n (Some b) (Invoke (Close x) otherwise) = may_be_number b n x
 may_close n _ _ = false
@@ -173,7 +176,7 @@ closing_points code bounds n = map (λ point. is_there code (may_close n (bound_
 -- Both numbers may be ends of one pair, and no instruction from there on closes one of them; a point that only ends doesn't count.
 abbrev pub is_doubled : List Instruction → List (Option Bound) → List Bool → List Bool → DescriptorNumber → DescriptorNumber → ℕ → Bool
 is_doubled code bounds closed others n m point =
-    are_both (held_here bounds n point) (held_here bounds m point) && not (is_flagged closed point) && not (is_flagged others point)
+    has_both bounds n m point && not (is_flagged closed point) && not (is_flagged others point)
     && not (is_there code is_halt point)
 
 abbrev pub doubled : List Instruction → List (Option Bound) → DescriptorNumber → DescriptorNumber → List ℕ

@@ -4,11 +4,11 @@ ghost use Rattle.std.specs.Prelude.{◌≡◌, ◌&&◌, ◌||◌, ◌==◌, ◌
 ghost use Rattle.std.specs.List.{list_any};
 ghost use Rattle.certificate.specs.Views.{bound_of, held_of, mode_of, target_of};
 ghost use Rattle.remarks.specs.RemarkViews.{bounds_of};
-ghost use Rattle.remarks.specs.Remarks.{are_both, are_sides, begins_way, bound_here, closing_points, doubled, has_mode, has_work, held_here, holds_so, idle, is_choice, is_doubled};
+ghost use Rattle.remarks.specs.Remarks.{are_sides, begins_way, bound_here, closing_points, doubled, has_both, held_here, holds_so, idle, is_doubled};
 ghost use Rattle.remarks.specs.Remarks.{is_either, is_either_at, is_fork, is_halt, stays_idle, is_led_by, is_off_at, is_on_at, is_skipping, is_stray, is_there, is_working};
 ghost use Rattle.remarks.specs.Remarks.{lies_nowhere, may_be_number, may_be_sent, parts_at, may_close, may_go_through, may_name_number, naming_points, skipping, strays, unsettled};
 ghost use Rattle.remarks.specs.Remarks.{working_points};
-ghost use Rattle.remarks.specs.Ways.{from_which, is_flagged};
+ghost use Rattle.remarks.specs.Ways.{from_which, is_flagged, points};
 ghost use Rattle.instruction_set.specs.Views.{code_of, instruction_of, operand_of, successors_of, syscall_of};
 ghost use Rattle.rights.specs.Limits.{most_descriptors};
 ghost use Rattle.rules.specs.Outcomes.{enters_mode as enters_mode_seen};
@@ -107,29 +107,6 @@ fn is_working(instruction: &Instruction) -> bool
         },
         _ => false,
     }
-}
-
-/// Whether an instruction chooses a way by a register.
-fn is_choice(instruction: &Instruction) -> bool
-    ensures { result ≡ is_choice (instruction_of instruction.now) }
-{
-    matches!(
-        instruction,
-        Instruction::Jeq { .. } | Instruction::Jlt { .. }
-    )
-}
-
-/// Whether an instruction is a fork.
-fn is_fork(instruction: &Instruction) -> bool
-    ensures { result ≡ is_fork (instruction_of instruction.now) }
-{
-    matches!(
-        instruction,
-        Instruction::Invoke {
-            call: Syscall::Fork,
-            ..
-        }
-    )
 }
 
 impl<'a> Bounded<'a> {
@@ -305,7 +282,12 @@ impl<'a> Bounded<'a> {
     {
         match self.code.get(point) {
             None => false,
-            Some(instruction) => is_choice(instruction) && self.is_behind_fork(point),
+            Some(instruction) => {
+                matches!(
+                    instruction,
+                    Instruction::Jeq { .. } | Instruction::Jlt { .. }
+                ) && self.is_behind_fork(point)
+            }
         }
     }
 
@@ -323,7 +305,13 @@ impl<'a> Bounded<'a> {
     {
         match self.code.get(point) {
             None => false,
-            Some(instruction) => is_fork(instruction),
+            Some(instruction) => matches!(
+                instruction,
+                Instruction::Invoke {
+                    call: Syscall::Fork,
+                    ..
+                }
+            ),
         }
     }
 
@@ -429,7 +417,7 @@ impl<'a> Bounded<'a> {
 
     /// Whether two numbers may be both ends of a pair there.
     fn has_both_at(&self, number: u32, other: u32, point: usize) -> bool
-        ensures { result ≡ are_both (held_here (bounds_of self.now.bounds.items) number point) (held_here (bounds_of self.now.bounds.items) other point) }
+        ensures { result ≡ has_both (bounds_of self.now.bounds.items) number other point }
     {
         match (self.held_here(number, point), self.held_here(other, point)) {
             (Some(held), Some(across)) => are_sides(&held.target(), &across.target()),
@@ -463,6 +451,9 @@ impl<'a> Bounded<'a> {
     ) -> Result<Vec<usize>, AllocError>
         ensures { IfOk result (λ found. found.items ≡ doubled (code_of self.now.code.now) (bounds_of self.now.bounds.items) number other) }
     {
+        if !self.ever_has_both(number, other) {
+            return Ok(Vec::new(alloc));
+        }
         let closed = self.closing_points(alloc, number)?;
         let others = self.closing_points(alloc, other)?;
         (0..count(self.code))
@@ -471,26 +462,9 @@ impl<'a> Bounded<'a> {
     }
 
     /// Whether two numbers may be both ends of a pair somewhere.
-    pub(crate) fn ever_has_both(&self, number: u32, other: u32) -> bool {
+    fn ever_has_both(&self, number: u32, other: u32) -> bool
+        ensures { result ≡ list_any (has_both (bounds_of self.now.bounds.items) number other) (points (code_of self.now.code.now)) }
+    {
         (0..count(self.code)).any(|point| self.has_both_at(number, other, point))
-    }
-
-    /// What a number may hold at a point in the mode, unless it is the same in the mode at the point before.
-    pub(crate) fn new_in_mode(&self, number: u32, point: usize) -> Option<Held> {
-        let Some(bound) = self.bound_here(point) else {
-            return None;
-        };
-        if !self.is_on_at(point) {
-            return None;
-        }
-        if let Some(before) = point.checked_sub(1) {
-            if let Some(other) = self.bound_here(before) {
-                let (slot, was) = (bound.slot(number), other.slot(number));
-                if self.is_on_at(before) && slot.within(&was) && was.within(&slot) {
-                    return None;
-                }
-            }
-        }
-        self.held_here(number, point)
     }
 }

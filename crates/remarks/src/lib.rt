@@ -5,6 +5,8 @@
 pub mod beyond;
 mod bounded;
 pub mod directories;
+mod gathering;
+mod limits;
 mod looks;
 mod marked;
 pub mod policies;

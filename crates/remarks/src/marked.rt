@@ -3,14 +3,13 @@
 ghost use Rattle.std.specs.Prelude.{◌≡◌, IfOk, filter};
 ghost use Rattle.instruction_set.specs.Views.{code_of};
 ghost use Rattle.remarks.specs.Marked.{enters_and_leads, goes_on_mixed, is_entered_at, is_mixed_at, is_outside_at, is_skipping_marked};
-ghost use Rattle.remarks.specs.Marked.{mixed_points, only, skipping_marked, unsettled_marked};
+ghost use Rattle.remarks.specs.Marked.{mixed_points, skipping_marked, unsettled_marked};
 ghost use Rattle.remarks.specs.RemarkViews.{bounds_of};
 ghost use Rattle.remarks.specs.Ways.{points};
 
 use crate::bounded::Bounded;
 use crate::looks::may_be_off;
-use crate::ways::{count, from_which, is_flagged, leads_to_flagged};
-use instruction_set::Instruction;
+use crate::ways::{count, from_which, is_flagged, leads_to_flagged, only};
 use std::alloc::{AllocError, Global};
 
 /// Where a process of a marked program may be in the mode or outside it.
@@ -20,13 +19,6 @@ pub(crate) struct MixedWays {
     pub unsettled: Vec<usize>,
     /// Those from which one comes to such a point without entering the mode.
     pub skipping: Vec<usize>,
-}
-
-/// The flags of points of which one alone is set.
-fn only(alloc: Global, code: &[Instruction], point: usize) -> Result<Vec<bool>, AllocError>
-    ensures { IfOk result (λ found. found.items ≡ only (code_of code.now) point) }
-{
-    (0..count(code)).map(|other| other == point).collect(alloc)
 }
 
 impl<'a> Bounded<'a> {

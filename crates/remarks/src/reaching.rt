@@ -1,20 +1,22 @@
-//! What the calls need that come from a point on, by the text of a program alone, and which points come from the first.
+//! What the calls need that come from a point on, by the text of a program alone.
 
-ghost use Rattle.std.specs.Prelude.{◌≡◌, not, option_map};
+ghost use Rattle.std.specs.Prelude.{◌≡◌, IfOk, map, not, option_map, true};
 ghost use Rattle.certificate.specs.Views.{bound_of, target_of};
-ghost use Rattle.instruction_set.specs.Views.{instruction_of, operand_of};
-ghost use Rattle.remarks.specs.RemarkViews.{uses_seen};
-ghost use Rattle.remarks.specs.Uses.{all_uses, both_uses, is_related, names_target, no_uses, sends_target, uses_by, uses_of, uses_through};
+ghost use Rattle.instruction_set.specs.Views.{code_of, instruction_of, operand_of, successors_of};
+ghost use Rattle.remarks.specs.RemarkViews.{bounds_of, uses_seen};
+ghost use Rattle.remarks.specs.Uses.{all_uses, both_uses, is_related, names_target, no_uses, or_later, sends_target, uses_ahead, uses_at, uses_at_all, uses_by};
+ghost use Rattle.remarks.specs.Uses.{uses_here, uses_later, uses_of, uses_on, uses_through};
 ghost use Rattle.transfer.specs.Views.{passed_of, through_of};
 
+use crate::ways::count;
 use certificate::{Bound, Domain, Held, Target};
-use instruction_set::{Instruction, Operand, successors_at};
+use instruction_set::{Instruction, Operand, Successors, successors_at};
 use rights::{Fcntls, Rights};
 use std::alloc::{AllocError, Global};
 use transfer::{Passed, SlotTest, Through, all_slots_pass, needed};
 
 /// What calls need of a descriptor, or keep by a limit.
-#[derive(Clone, Copy, PartialEq, Eq)]
+#[derive(Clone, Copy)]
 pub struct Uses {
     pub rights: Rights,
     pub commands: Fcntls,
@@ -39,6 +41,13 @@ impl Uses {
             rights: Rights::all(),
             commands: Fcntls::all(),
         }
+    }
+
+    /// Whether these are the others.
+    fn is(self, other: Uses) -> bool
+        ensures { result ≡ true → uses_seen self ≡ uses_seen other }
+    {
+        self.rights == other.rights && self.commands == other.commands
     }
 
     /// Both together.
@@ -122,68 +131,102 @@ pub fn uses_of(instruction: &Instruction, bound: &Option<Bound>, target: &Target
     uses_through(bound, target, &needs.first).with(uses_through(bound, target, &needs.second))
 }
 
-/// What stands at a point, if it is there.
-fn at(uses: &[Uses], point: Option<usize>) -> Uses {
-    point
-        .and_then(|point| uses.get(point))
-        .copied()
-        .unwrap_or(Uses::none())
-}
-
-/// Adds to what each point needs what those need that it leads to, the last points first. Whether that changed anything.
-fn gather_later(code: &[Instruction], uses: &mut [Uses]) -> bool {
-    let mut has_changed = false;
-    for point in (0..code.len()).rev() {
-        let successors = successors_at(code, point);
-        let later = at(uses, successors.next).with(at(uses, successors.other));
-        if let Some(here) = uses.get_mut(point) {
-            let all = here.with(later);
-            has_changed = has_changed || all != *here;
-            *here = all;
-        }
+/// What the instruction of a point needs of what a target may be.
+fn uses_on(code: &[Instruction], bounds: &[Option<Bound>], target: &Target, point: usize) -> Uses
+    ensures { uses_seen result ≡ uses_on (code_of code.now) (bounds_of bounds.now) (target_of target.now) point }
+{
+    match (code.get(point), bounds.get(point)) {
+        (None, _) => Uses::none(),
+        (Some(instruction), None) => uses_of(instruction, &None, target),
+        (Some(instruction), Some(bound)) => uses_of(instruction, bound, target),
     }
-    has_changed
 }
 
-/// For each point what the calls that may come from there on need of what a target may be.
+/// What the instruction of each point needs of what a target may be.
+fn uses_here(
+    alloc: Global,
+    code: &[Instruction],
+    bounds: &[Option<Bound>],
+    target: &Target,
+) -> Result<Vec<Uses>, AllocError>
+    ensures { IfOk result (λ found. map uses_seen found.items ≡ uses_here (code_of code.now) (bounds_of bounds.now) (target_of target.now)) }
+{
+    let mut uses = Vec::new(alloc);
+    for point in 0..count(code) {
+        uses.push(uses_on(code, bounds, target, point))?;
+    }
+    Ok(uses)
+}
+
+/// What a point needs.
+pub(crate) fn uses_at(uses: &[Uses], point: usize) -> Uses
+    ensures { uses_seen result ≡ uses_at (map uses_seen uses.now) point }
+{
+    match uses.get(point) {
+        None => Uses::none(),
+        Some(here) => *here,
+    }
+}
+
+/// What the points need that an instruction leads to.
+fn uses_at_all(uses: &[Uses], successors: Successors) -> Uses
+    ensures { uses_seen result ≡ uses_at_all (map uses_seen uses.now) (successors_of successors) }
+{
+    let other = match successors.other {
+        None => Uses::none(),
+        Some(point) => uses_at(uses, point).with(Uses::none()),
+    };
+    match successors.next {
+        None => other,
+        Some(point) => uses_at(uses, point).with(other),
+    }
+}
+
+/// What a point needs, and those that it leads to.
+fn uses_later(code: &[Instruction], uses: &[Uses], point: usize) -> Uses
+    ensures { uses_seen result ≡ uses_later (code_of code.now) (map uses_seen uses.now) point }
+{
+    uses_at(uses, point).with(uses_at_all(uses, successors_at(code, point)))
+}
+
+/// The same of each point.
+fn or_later(alloc: Global, code: &[Instruction], uses: &[Uses]) -> Result<Vec<Uses>, AllocError>
+    ensures { IfOk result (λ found. map uses_seen found.items ≡ or_later (code_of code.now) (map uses_seen uses.now)) }
+{
+    let mut later = Vec::new(alloc);
+    for point in 0..count(code) {
+        later.push(uses_later(code, uses, point))?;
+    }
+    Ok(later)
+}
+
+/// Whether these are the same.
+fn are_same(uses: &[Uses], others: &[Uses]) -> bool
+    ensures { result ≡ true → map uses_seen uses.now ≡ map uses_seen others.now }
+{
+    match (uses, others) {
+        ([], []) => true,
+        ([first, rest @ ..], [other, behind @ ..]) => first.is(*other) && are_same(rest, behind),
+        _ => false,
+    }
+}
+
+/// For each point what the calls that may come from there on need of what a target may be. Once a round adds nothing, no further one does.
 pub(crate) fn uses_ahead(
     alloc: Global,
     code: &[Instruction],
     bounds: &[Option<Bound>],
     target: &Target,
-) -> Result<Vec<Uses>, AllocError> {
-    let mut uses: Vec<Uses> = code
-        .iter()
-        .zip(bounds)
-        .map(|(instruction, bound)| uses_of(instruction, bound, target))
-        .collect(alloc)?;
-    for _ in 0..code.len() {
-        if !gather_later(code, &mut uses) {
-            return Ok(uses);
+) -> Result<Vec<Uses>, AllocError>
+    ensures { IfOk result (λ found. map uses_seen found.items ≡ uses_ahead (code_of code.now) (bounds_of bounds.now) (target_of target.now)) }
+{
+    let mut found = uses_here(alloc, code, bounds, target)?;
+    for taken in 0..count(code) {
+        let more = or_later(alloc, code, &found)?;
+        if are_same(&more, &found) {
+            return Ok(found);
         }
+        found = more;
     }
-    Ok(uses)
-}
-
-/// Sets the flag of a point, if it is there.
-fn set(flags: &mut [bool], point: Option<usize>) {
-    if let Some(flag) = point.and_then(|point| flags.get_mut(point)) {
-        *flag = true;
-    }
-}
-
-/// For each point whether instructions lead to it from point 0.
-pub(crate) fn points_reached(alloc: Global, code: &[Instruction]) -> Result<Vec<bool>, AllocError> {
-    let mut reached = vec![in alloc; false; code.len()]?;
-    set(&mut reached, Some(0));
-    for _ in 0..code.len() {
-        for point in 0..code.len() {
-            if reached.get(point) == Some(&true) {
-                let successors = successors_at(code, point);
-                set(&mut reached, successors.next);
-                set(&mut reached, successors.other);
-            }
-        }
-    }
-    Ok(reached)
+    Ok(found)
 }

@@ -2,7 +2,7 @@
 
 ghost use Rattle.std.specs.Prelude.{◌≡◌, ◌||◌, IfOk, length, true};
 ghost use Rattle.std.specs.List.{list_any};
-ghost use Rattle.remarks.specs.Ways.{from_which, is_flagged, or_before};
+ghost use Rattle.remarks.specs.Ways.{comes_to, from_which, is_flagged, only, or_before, reached};
 ghost use Rattle.instruction_set.specs.Successors.{successors_at};
 ghost use Rattle.instruction_set.specs.Views.{code_of};
 
@@ -42,6 +42,17 @@ pub(crate) fn count(code: &[Instruction]) -> usize
     code.len()
 }
 
+/// The flags of points of which one alone is set.
+pub(crate) fn only(
+    alloc: Global,
+    code: &[Instruction],
+    point: usize,
+) -> Result<Vec<bool>, AllocError>
+    ensures { IfOk result (λ found. found.items ≡ only (code_of code.now) point) }
+{
+    (0..count(code)).map(|other| other == point).collect(alloc)
+}
+
 /// The points that are flagged, or lead to one that is.
 fn or_before(alloc: Global, code: &[Instruction], flags: &[bool]) -> Result<Vec<bool>, AllocError>
     ensures { IfOk result (λ found. found.items ≡ or_before (code_of code.now) flags.now) }
@@ -77,6 +88,26 @@ pub(crate) fn from_which(
             return Ok(found);
         }
         found = more;
+    }
+    Ok(found)
+}
+
+/// Whether instructions lead to a point from the first.
+fn comes_to(alloc: Global, code: &[Instruction], point: usize) -> Result<bool, AllocError>
+    ensures { IfOk result (λ comes. comes ≡ comes_to (code_of code.now) point) }
+{
+    let here = only(alloc, code, point)?;
+    let before = from_which(alloc, code, here)?;
+    Ok(is_flagged(&before, 0))
+}
+
+/// Whether instructions lead to each point from the first.
+pub(crate) fn reached(alloc: Global, code: &[Instruction]) -> Result<Vec<bool>, AllocError>
+    ensures { IfOk result (λ found. found.items ≡ reached (code_of code.now)) }
+{
+    let mut found = Vec::new(alloc);
+    for point in 0..count(code) {
+        found.push(comes_to(alloc, code, point)?)?;
     }
     Ok(found)
 }

@@ -1,46 +1,53 @@
 //! What may be open at a point, and what changed before it.
 
 use crate::room::Room;
-use crate::views::{Reviewed, Viewed};
 use certificate::{Bound, Domain, Held, Slot, Target};
 use page::{Change, OpenKind, OpenState, Tone};
 use remarks::rights_beyond;
 use rights::Rights;
 use rights::limits::MAX_DESCRIPTORS;
+use task::Grant;
 use texts::parts_of;
 use transfer::may_be_on;
 
 /// Whether a number may be open at some point of a program.
-fn is_ever_open(viewed: &Viewed<'_>, number: u8) -> bool {
-    viewed.bounds.iter().any(|bound| match bound {
-        None => false,
-        Some(bound) => !bound.slot(u32::from(number)).is_closed(),
-    })
+fn is_ever_open(bounds: &[Option<Bound>], number: u8) -> bool {
+    for bound in bounds {
+        if let Some(bound) = bound {
+            if !bound.slot(u32::from(number)).is_closed() {
+                return true;
+            }
+        }
+    }
+    false
 }
 
 /// The numbers that may be open at some point.
-pub(crate) fn numbers_of(room: &mut Room, viewed: &Viewed<'_>) -> Vec<u8> {
-    let found = (0..MAX_DESCRIPTORS as u8)
-        .filter(|number| is_ever_open(viewed, *number))
-        .collect(room.alloc());
-    room.made(found)
+pub(crate) fn numbers_of(room: &mut Room, bounds: &[Option<Bound>]) -> Vec<u8> {
+    let mut numbers = room.list();
+    for number in 0..MAX_DESCRIPTORS as u8 {
+        if is_ever_open(bounds, number) {
+            room.push(&mut numbers, number);
+        }
+    }
+    numbers
 }
 
 /// The bound of a point.
-fn bound_at<'v>(viewed: &'v Viewed<'_>, point: usize) -> Option<&'v Bound> {
-    match viewed.bounds.get(point) {
+fn bound_at(bounds: &[Option<Bound>], point: usize) -> Option<&Bound> {
+    match bounds.get(point) {
         Some(Some(bound)) => Some(bound),
         _ => None,
     }
 }
 
 /// What a number is open on.
-fn kind_of(reviewed: &Reviewed<'_>, bound: &Bound, held: &Held) -> OpenKind {
+fn kind_of(grants: &[Grant], bound: &Bound, held: &Held) -> OpenKind {
     let is_on = may_be_on(bound.mode());
     match held.target() {
         Target::Socket(..) => OpenKind::End,
         Target::InGrant(_) => {
-            if is_on && rights_beyond(reviewed.scene.task.grants(), held) != Rights::empty() {
+            if is_on && rights_beyond(grants, held) != Rights::empty() {
                 OpenKind::Beyond
             } else {
                 OpenKind::Granted
@@ -57,35 +64,27 @@ fn kind_of(reviewed: &Reviewed<'_>, bound: &Bound, held: &Held) -> OpenKind {
 }
 
 /// What a number is at a point.
-fn state_of(reviewed: &Reviewed<'_>, bound: &Bound, number: u8) -> OpenState {
-    match bound.slot(u32::from(number)) {
-        Slot::Closed => OpenState {
-            kind: OpenKind::Closed,
-            maybe: false,
-        },
-        Slot::Open(held) => OpenState {
-            kind: kind_of(reviewed, bound, &held),
-            maybe: false,
-        },
-        Slot::Maybe(held) => OpenState {
-            kind: kind_of(reviewed, bound, &held),
-            maybe: true,
-        },
-    }
+fn state_of(grants: &[Grant], bound: &Bound, number: u8) -> OpenState {
+    let (kind, maybe) = match bound.slot(u32::from(number)) {
+        Slot::Closed => (OpenKind::Closed, false),
+        Slot::Open(held) => (kind_of(grants, bound, &held), false),
+        Slot::Maybe(held) => (kind_of(grants, bound, &held), true),
+    };
+    OpenState { kind, maybe }
 }
 
 /// What the numbers are at a point; nothing where it has no bound.
 pub(crate) fn states_at(
     room: &mut Room,
-    reviewed: &Reviewed<'_>,
-    viewed: &Viewed<'_>,
+    grants: &[Grant],
+    bounds: &[Option<Bound>],
     numbers: &[u8],
     point: usize,
 ) -> Vec<OpenState> {
     let mut states = room.list();
-    if let Some(bound) = bound_at(viewed, point) {
+    if let Some(bound) = bound_at(bounds, point) {
         for number in numbers {
-            let state = state_of(reviewed, bound, *number);
+            let state = state_of(grants, bound, *number);
             room.push(&mut states, state);
         }
     }
@@ -104,25 +103,17 @@ fn tone_of(kind: OpenKind) -> Tone {
 }
 
 /// What is told of a number.
-fn change_of(room: &mut Room, reviewed: &Reviewed<'_>, bound: &Bound, number: u8) -> Change {
-    let tone = tone_of(state_of(reviewed, bound, number).kind);
-    let text = match bound.slot(u32::from(number)) {
-        Slot::Closed => room.text(parts_of!(number, " closed")),
-        Slot::Open(held) => room.text(parts_of!(
-            number,
-            " ",
-            held.target(),
-            " ",
-            held.rights().greatest()
-        )),
-        Slot::Maybe(held) => room.text(parts_of!(
-            number,
-            " maybe ",
-            held.target(),
-            " ",
-            held.rights().greatest()
-        )),
+fn change_of(room: &mut Room, grants: &[Grant], bound: &Bound, number: u8) -> Change {
+    let tone = tone_of(state_of(grants, bound, number).kind);
+    let (held, word) = match bound.slot(u32::from(number)) {
+        Slot::Closed => {
+            let text = room.text(parts_of!(number, " closed"));
+            return Change { tone, text };
+        }
+        Slot::Open(held) => (held, " "),
+        Slot::Maybe(held) => (held, " maybe "),
     };
+    let text = room.text(parts_of!(number, word, held.target(), " ", held.rights().greatest()));
     Change { tone, text }
 }
 
@@ -142,21 +133,22 @@ fn is_told(bound: &Bound, before: Option<&Bound>, number: u8) -> bool {
 /// What changed before a point.
 pub(crate) fn changes_at(
     room: &mut Room,
-    reviewed: &Reviewed<'_>,
-    viewed: &Viewed<'_>,
+    grants: &[Grant],
+    bounds: &[Option<Bound>],
     numbers: &[u8],
     point: usize,
 ) -> Vec<Change> {
     let mut changes = room.list();
-    let Some(bound) = bound_at(viewed, point) else {
+    let Some(bound) = bound_at(bounds, point) else {
         return changes;
     };
-    let before = point
-        .checked_sub(1)
-        .and_then(|before| bound_at(viewed, before));
+    let before = match point.checked_sub(1) {
+        None => None,
+        Some(before) => bound_at(bounds, before),
+    };
     for number in numbers {
         if is_told(bound, before, *number) {
-            let change = change_of(room, reviewed, bound, *number);
+            let change = change_of(room, grants, bound, *number);
             room.push(&mut changes, change);
         }
     }

@@ -20,13 +20,6 @@ fn is_of(observation: &Observation, topic: Topic) -> bool {
     }
 }
 
-/// What is said of an observation, without its points.
-fn said_of(room: &Room, observation: &Observation) -> Page {
-    let mut said = Page::new(room.alloc());
-    say!(&mut said; &observation.words, &observation.more);
-    said
-}
-
 /// The points of an observation, with its program.
 fn points_of(room: &Room, program: &Name, observation: &Observation) -> Page {
     let mut points = Page::new(room.alloc());
@@ -47,8 +40,8 @@ fn place_of(room: &mut Room, program: &Name, observation: &Observation) -> Vec<P
             };
             let points = points_of(room, program, observation);
             room.link(&mut sentence, place, &points);
-            let said = said_of(room, observation);
-            room.plain(&mut sentence, parts_of!(" ", &said));
+            let (words, more) = (&observation.words, &observation.more);
+            room.plain(&mut sentence, parts_of!(" ", words, more));
         }
     }
     sentence
@@ -125,14 +118,13 @@ fn items_to_look_at(room: &mut Room, reviewed: &Reviewed<'_>, views: &[Viewed<'_
     let of_task = task_remarks(room.alloc(), &reviewed.scene, reviewed.has_bounds);
     let of_task = room.made(of_task);
     let mut items = room.list();
-    for topic in REMARK_TOPICS {
-        add_topic(room, &mut items, views, &of_task, topic);
+    for topic in &REMARK_TOPICS {
+        add_topic(room, &mut items, views, &of_task, *topic);
     }
     add_topic(room, &mut items, views, &of_task, Topic::FreeBsd(""));
     if items.is_empty() {
         let words = room.sentence("Nothing: there is no remark and no warning.");
-        let below = room.list();
-        room.push(&mut items, Item { words, below });
+        room.item(&mut items, words);
     }
     items
 }
@@ -177,13 +169,12 @@ fn add_broken(
 /// What to do about the rules that are broken: each once, with its points.
 fn items_to_do(room: &mut Room, reviewed: &Reviewed<'_>) -> Vec<Item> {
     let mut items = room.list();
-    for rule in RULES {
+    for rule in &RULES {
         let mut words = room.list();
         room.push(&mut words, Piece::RuleTag(rule.number()));
-        if add_broken(room, &mut words, reviewed, rule) {
-            room.plain(&mut words, parts_of!(". ", rule_advice(rule)));
-            let below = room.list();
-            room.push(&mut items, Item { words, below });
+        if add_broken(room, &mut words, reviewed, *rule) {
+            room.plain(&mut words, parts_of!(". ", rule_advice(*rule)));
+            room.item(&mut items, words);
         }
     }
     items
@@ -225,8 +216,7 @@ pub(crate) fn left_column(
     if items.is_empty() {
         if let Some(breach) = breach_of(&reviewed.outcome) {
             let words = room.sentence(breach_advice(breach));
-            let below = room.list();
-            room.push(&mut items, Item { words, below });
+            room.item(&mut items, words);
         }
     }
     Column {

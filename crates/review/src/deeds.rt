@@ -21,15 +21,15 @@ fn add_path(page: &mut Page, path: &Path) {
 /// Adds how a file is opened.
 fn add_flags(page: &mut Page, flags: OpenFlags) {
     let mut separator = " ";
-    for (is_there, name) in [
+    for (is_there, name) in &[
         (flags.read(), "read"),
         (flags.write(), "write"),
         (flags.append(), "append"),
         (flags.create(), "create"),
         (flags.trunc(), "trunc"),
     ] {
-        if is_there {
-            say!(page; separator, name);
+        if *is_there {
+            say!(page; separator, *name);
             separator = ",";
         }
     }

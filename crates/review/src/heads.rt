@@ -2,10 +2,11 @@
 
 use crate::columns::{breach_of, left_column};
 use crate::room::{Room, short};
+use crate::runs::end_of;
 use crate::views::{Outcome, Reviewed, Side, Viewed};
 use explain::finding_words;
 use explore::Breach;
-use page::{Column, Header, Item, Piece, Place, Verdict};
+use page::{Column, Header, Piece, Place, Verdict};
 use texts::{Page, parts_of, say};
 
 /// What a page says at its head.
@@ -40,23 +41,51 @@ const PROVED_EMPTY: &str =
 const OF_THE_TASK: &str =
     "Anything of the C text, or of another kernel than Capcheck’s model: it speaks of this task.";
 
+/// What a yes doesn't say of untrusted programs.
+const OF_THE_UNTRUSTED: &str =
+    "That an untrusted program is never refused: it may be, as often as it likes.";
+
+/// What a no doesn't say of the task.
+const OTHER_CERTIFICATES: &str = "That the task is unsafe: another certificate may be accepted.";
+
+/// What a no doesn't say of the certificate.
+const CLAIMED: &str = "That its bounds are so: they are what the certificate claims.";
+
+/// What a breach doesn't say.
+const OTHER_RUNS: &str = "That this is the only run, or the shortest, that breaks it.";
+
+/// What no verdict doesn't say.
+const NOT_DECIDED: &str = "That the program is unsafe, or that it is safe.";
+
 /// That the bounds were not accepted.
 const NOT_ACCEPTED: &str =
     "The picture and the rights below are bounds that a search reached. They weren’t accepted.";
 
+/// Whether some program is untrusted.
+fn is_marked(views: &[Viewed<'_>]) -> bool {
+    for viewed in views {
+        if viewed.named.untrusted {
+            return true;
+        }
+    }
+    false
+}
+
 /// Whether some process may be in the mode, or attackers.
 fn is_entered(views: &[Viewed<'_>]) -> bool {
-    views.iter().any(|viewed| {
-        viewed.named.untrusted
-            || (0..viewed.bounds.len()).any(|point| viewed.bound_in(Side::Inside, point).is_some())
-    })
+    for viewed in views {
+        if viewed.is_ever_inside() {
+            return true;
+        }
+    }
+    false
 }
 
 /// What the page says at its head.
 fn case_of(reviewed: &Reviewed<'_>, views: &[Viewed<'_>]) -> Case {
     match reviewed.outcome {
         Outcome::Accepted => {
-            if views.iter().any(|viewed| viewed.named.untrusted) {
+            if is_marked(views) {
                 Case::YesMarked
             } else if is_entered(views) {
                 Case::Yes
@@ -71,84 +100,61 @@ fn case_of(reviewed: &Reviewed<'_>, views: &[Viewed<'_>]) -> Case {
 }
 
 impl Case {
-    /// The answer in a word, for the page's title.
-    fn title(self) -> &'static str {
+    /// The answer in a word for the page's title, how it is coloured, and the coloured words.
+    fn words(self) -> (&'static str, Verdict, &'static str) {
         match self {
-            Case::Yes | Case::YesMarked | Case::YesEmpty => "yes",
-            Case::No => "no",
-            Case::Broken => "breach",
-            Case::Undecided => "undecided",
-        }
-    }
-
-    /// How it is coloured.
-    fn verdict(self) -> Verdict {
-        match self {
-            Case::Yes | Case::YesMarked => Verdict::Yes,
-            Case::YesEmpty | Case::Undecided => Verdict::Open,
-            Case::No | Case::Broken => Verdict::No,
-        }
-    }
-
-    /// The coloured word.
-    fn word(self) -> &'static str {
-        match self {
-            Case::Yes | Case::YesMarked => "Yes.",
-            Case::YesEmpty => "Yes, but empty.",
-            Case::No => "No.",
-            Case::Broken => "Broken.",
-            Case::Undecided => "Not decided.",
+            Case::Yes | Case::YesMarked => ("yes", Verdict::Yes, "Yes."),
+            Case::YesEmpty => ("yes", Verdict::Open, "Yes, but empty."),
+            Case::No => ("no", Verdict::No, "No."),
+            Case::Broken => ("breach", Verdict::No, "Broken."),
+            Case::Undecided => ("undecided", Verdict::Open, "Not decided."),
         }
     }
 }
 
-/// Adds the names of the untrusted programs, and that they may be taken over.
-fn add_marked(page: &mut Page, views: &[Viewed<'_>]) {
-    let mut separator = "";
+/// The names of the untrusted programs, and that they may be taken over.
+fn marked_heading(room: &mut Room, views: &[Viewed<'_>]) -> Vec<u8> {
+    let mut page = Page::new(room.alloc());
+    let mut separator = "It stays inside, even where ";
     let mut count: u32 = 0;
     for viewed in views {
         if viewed.named.untrusted {
-            say!(page; separator, viewed.named.name.as_bytes());
+            say!(&mut page; separator, viewed.named.name.as_bytes());
             separator = ", ";
             count = count.saturating_add(1);
         }
     }
-    say!(page; if count == 1 { " is taken over." } else { " are taken over." })
+    say!(&mut page; if count == 1 { " is taken over." } else { " are taken over." });
+    room.bytes(page)
 }
 
 /// How a run ends that breaks something.
 fn breach_words(breach: &Breach) -> &'static str {
     match breach {
-        Breach::Outside(..) => " leaves the sandbox.",
-        Breach::MissingRight => " ends with a right that is missing.",
-        Breach::CapMode => " ends where the mode refuses a call.",
+        Breach::Outside(..) => "A run leaves the sandbox.",
+        Breach::MissingRight => "A run ends with a right that is missing.",
+        Breach::CapMode => "A run ends where the mode refuses a call.",
     }
 }
 
 /// The sentence behind the coloured word.
 fn heading(room: &mut Room, reviewed: &Reviewed<'_>, views: &[Viewed<'_>], case: Case) -> Vec<u8> {
-    let mut page = Page::new(room.alloc());
     match case {
-        Case::Yes => say!(&mut page; "It stays inside its sandbox."),
-        Case::YesMarked => {
-            say!(&mut page; "It stays inside, even where ");
-            add_marked(&mut page, views)
-        }
-        Case::YesEmpty => say!(&mut page; "No process enters capability mode."),
+        Case::Yes => room.text("It stays inside its sandbox."),
+        Case::YesMarked => marked_heading(room, views),
+        Case::YesEmpty => room.text("No process enters capability mode."),
         Case::No => match reviewed.findings.len() {
-            1 => say!(&mut page; "The certificate breaks a rule."),
-            count => say!(&mut page; "The certificate breaks rules at ", count, " places."),
+            1 => room.text("The certificate breaks a rule."),
+            count => room.text(parts_of!("The certificate breaks rules at ", count, " places.")),
         },
-        Case::Broken => {
-            if let Some(breach) = breach_of(&reviewed.outcome) {
-                say!(&mut page; "A run", breach_words(breach))
-            }
-        }
-        Case::Undecided => {
-            say!(&mut page; "No certificate was found, and no run that breaks the sandbox.")
-        }
+        Case::Broken => match breach_of(&reviewed.outcome) {
+            Some(breach) => room.text(breach_words(breach)),
+            None => room.list(),
+        },
+        Case::Undecided => room.text(
+            "No certificate was found, and no run that breaks the sandbox.",
+        ),
     }
-    room.bytes(page)
 }
 
 /// The first rule that is broken, with its point.
@@ -174,20 +180,14 @@ fn first_finding(room: &mut Room, reviewed: &Reviewed<'_>) -> Vec<Piece> {
 
 /// What a run breaks at its last step.
 fn breach_lead(room: &mut Room, reviewed: &Reviewed<'_>) -> Vec<Piece> {
-    let mut page = Page::new(room.alloc());
     match reviewed.outcome {
-        Outcome::Broken(found) => {
-            say!(&mut page; "Its last step: ");
-            explore::add_breach(&mut page, &found.breach, &found.detail)
-        }
+        Outcome::Broken(found) => end_of(room, "Its last step: ", &found.breach, &found.detail),
         Outcome::Attacked { breach, detail, .. } => {
-            say!(&mut page; "An untrusted program does what it likes there. The last step: ");
-            explore::add_breach(&mut page, breach, detail)
+            let words = "An untrusted program does what it likes there. The last step: ";
+            end_of(room, words, breach, detail)
         }
-        Outcome::Accepted | Outcome::Refused | Outcome::Undecided => {}
+        Outcome::Accepted | Outcome::Refused | Outcome::Undecided => room.sentence(""),
     }
-    let text = room.bytes(page);
-    room.sentence(text.strip_suffix(b"\n".as_slice()).unwrap_or(&text))
 }
 
 /// What is proved, or what is broken.
@@ -229,23 +229,26 @@ fn add_outside(
 }
 
 /// What happens outside the mode, with its lines.
-fn outside_item(room: &mut Room, reviewed: &Reviewed<'_>, views: &[Viewed<'_>]) -> Item {
+fn outside_words(room: &mut Room, reviewed: &Reviewed<'_>, views: &[Viewed<'_>]) -> Vec<Piece> {
     let mut words = room.sentence("What happens outside the mode:");
     for viewed in views {
         add_outside(room, &mut words, reviewed, viewed);
     }
     room.plain(&mut words, " a yes says nothing of it.");
-    Item {
-        words,
-        below: room.list(),
-    }
+    words
 }
 
-/// Adds an item of words alone.
-fn add_item(room: &mut Room, items: &mut Vec<Item>, words: &'static str) {
-    let words = room.sentence(words);
-    let below = room.list();
-    room.push(items, Item { words, below });
+/// What the answer doesn't say, whatever the task is.
+fn unsaid(case: Case, has_bounds: bool) -> &'static [&'static str] {
+    match (case, has_bounds) {
+        (Case::Yes | Case::YesEmpty, _) => &[OF_THE_TASK],
+        (Case::YesMarked, _) => &[OF_THE_UNTRUSTED, OF_THE_TASK],
+        (Case::No, _) => &[OTHER_CERTIFICATES, CLAIMED],
+        (Case::Broken, false) => &[OTHER_RUNS],
+        (Case::Broken, true) => &[OTHER_RUNS, NOT_ACCEPTED],
+        (Case::Undecided, false) => &[NOT_DECIDED],
+        (Case::Undecided, true) => &[NOT_DECIDED, NOT_ACCEPTED],
+    }
 }
 
 /// The heading above what the answer doesn't say.
@@ -265,50 +268,13 @@ fn right_column(
     case: Case,
 ) -> Column {
     let mut items = room.list();
-    match case {
-        Case::Yes | Case::YesMarked | Case::YesEmpty => {
-            let item = outside_item(room, reviewed, views);
-            room.push(&mut items, item);
-            if let Case::YesMarked = case {
-                add_item(
-                    room,
-                    &mut items,
-                    "That an untrusted program is never refused: it may be, as often as it likes.",
-                );
-            }
-            add_item(room, &mut items, OF_THE_TASK);
-        }
-        Case::No => {
-            add_item(
-                room,
-                &mut items,
-                "That the task is unsafe: another certificate may be accepted.",
-            );
-            add_item(
-                room,
-                &mut items,
-                "That its bounds are so: they are what the certificate claims.",
-            );
-        }
-        Case::Broken => {
-            add_item(
-                room,
-                &mut items,
-                "That this is the only run, or the shortest, that breaks it.",
-            );
-        }
-        Case::Undecided => {
-            add_item(
-                room,
-                &mut items,
-                "That the program is unsafe, or that it is safe.",
-            );
-        }
+    if let Case::Yes | Case::YesMarked | Case::YesEmpty = case {
+        let words = outside_words(room, reviewed, views);
+        room.item(&mut items, words);
     }
-    if let Case::Broken | Case::Undecided = case {
-        if reviewed.has_bounds {
-            add_item(room, &mut items, NOT_ACCEPTED);
-        }
+    for words in unsaid(case, reviewed.has_bounds) {
+        let words = room.sentence(*words);
+        room.item(&mut items, words);
     }
     Column {
         heading: room.text(right_heading(case)),
@@ -319,15 +285,16 @@ fn right_column(
 /// The head of the page.
 pub(crate) fn header_of(room: &mut Room, reviewed: &Reviewed<'_>, views: &[Viewed<'_>]) -> Header {
     let case = case_of(reviewed, views);
+    let (title, verdict, word) = case.words();
     Header {
         task: room.text(reviewed.task_file),
         certificate: match reviewed.cert_file {
             None => None,
             Some(name) => Some(room.text(name)),
         },
-        title: room.text(case.title()),
-        verdict: case.verdict(),
-        word: room.text(case.word()),
+        title: room.text(title),
+        verdict,
+        word: room.text(word),
         heading: heading(room, reviewed, views, case),
         lead: lead(room, reviewed, case),
         left: left_column(room, reviewed, views),

@@ -2,7 +2,7 @@
 
 use crate::room::Room;
 use crate::views::{Reviewed, Side, Viewed};
-use certificate::{Class, Pair, Side as PairSide, Target};
+use certificate::{Cert, Class, Pair, Side as PairSide, Target};
 use checker::allowance_at;
 use rights::Rights;
 use rights::limits::MAX_PAIRS;
@@ -30,9 +30,12 @@ pub(crate) struct Holdings {
 
 /// The place of a grant in a policy.
 pub(crate) fn grant_place(grants: &[Grant], name: &Name) -> Option<usize> {
-    grants
-        .iter()
-        .position(|grant| grant.name.as_bytes() == name.as_bytes())
+    for (place, grant) in grants.iter().enumerate() {
+        if grant.name.as_bytes() == name.as_bytes() {
+            return Some(place);
+        }
+    }
+    None
 }
 
 /// Adds rights to what is held.
@@ -54,11 +57,12 @@ impl Holdings {
 
     /// Adds what lies in a grant; in one that the task hasn't, it lies in none.
     fn add_granted(&mut self, task: &Task, name: &Name, rights: Rights) {
-        let place = grant_place(task.grants(), name);
-        match place.and_then(|place| self.grants.get_mut(place)) {
-            Some(held) => add_rights(held, rights),
-            None => add_rights(&mut self.nowhere, rights),
+        if let Some(place) = grant_place(task.grants(), name) {
+            if let Some(held) = self.grants.get_mut(place) {
+                return add_rights(held, rights);
+            }
         }
+        add_rights(&mut self.nowhere, rights)
     }
 
     /// Adds an end.
@@ -113,9 +117,12 @@ impl Holdings {
 
     /// Whether it has an end.
     pub(crate) fn has_end(&self, end: &HeldEnd) -> bool {
-        self.ends
-            .iter()
-            .any(|own| own.class.is(&end.class) && own.side == end.side)
+        for own in &self.ends {
+            if own.class.is(&end.class) && own.side == end.side {
+                return true;
+            }
+        }
+        false
     }
 }
 
@@ -140,14 +147,9 @@ pub(crate) fn held_on_side(
 }
 
 /// What an untrusted program may hold in the mode: its authority.
-pub(crate) fn held_by_authority(
-    room: &mut Room,
-    reviewed: &Reviewed<'_>,
-    viewed: &Viewed<'_>,
-) -> Holdings {
-    let task = reviewed.scene.task;
+fn held_by_authority(room: &mut Room, task: &Task, cert: &Cert, program: &Name) -> Holdings {
     let mut holdings = Holdings::none(room, task);
-    let allowed = allowance_at(reviewed.scene.cert, &viewed.named.name);
+    let allowed = allowance_at(cert, program);
     for ceiling in allowed.ceilings {
         holdings.add_granted(task, ceiling.grant(), ceiling.rights());
     }
@@ -177,7 +179,8 @@ pub(crate) fn held_inside(
     viewed: &Viewed<'_>,
 ) -> Holdings {
     if viewed.named.untrusted {
-        held_by_authority(room, reviewed, viewed)
+        let scene = &reviewed.scene;
+        held_by_authority(room, scene.task, scene.cert, &viewed.named.name)
     } else {
         held_on_side(room, reviewed.scene.task, viewed, Side::Inside)
     }

@@ -5,8 +5,8 @@ ghost use Rattle.std.specs.Prelude.{◌≤◌, length};
 use crate::changes::{changes_at, numbers_of, states_at};
 use crate::room::{Room, short};
 use crate::views::{Reviewed, Viewed};
-use certificate::ModeBound;
-use checker::allowance_at;
+use certificate::{Bound, ModeBound};
+use checker::{BrokenRule, allowance_at};
 use explain::{Observation, Topic, finding_words, line_of};
 use page::{Line, Listing, Mode, Piece, Remark, RemarkKind};
 use task_text::SourceLine;
@@ -30,15 +30,15 @@ pub(crate) fn tail_begin(instruction: &[u8]) -> usize
 }
 
 /// Where a point stands to the mode.
-fn mode_of(reviewed: &Reviewed<'_>, viewed: &Viewed<'_>, point: usize) -> Mode {
-    match viewed.bounds.get(point) {
+fn mode_of(has_bounds: bool, bounds: &[Option<Bound>], point: usize) -> Mode {
+    match bounds.get(point) {
         Some(Some(bound)) => match bound.mode() {
             ModeBound::Off => Mode::Outside,
             ModeBound::On => Mode::Inside,
             ModeBound::Either => Mode::Either,
         },
         _ => {
-            if reviewed.has_bounds {
+            if has_bounds {
                 Mode::Unreached
             } else {
                 Mode::Outside
@@ -48,9 +48,9 @@ fn mode_of(reviewed: &Reviewed<'_>, viewed: &Viewed<'_>, point: usize) -> Mode {
 }
 
 /// A mode in a word.
-fn mode_word(reviewed: &Reviewed<'_>, mode: Mode) -> &'static str {
+fn mode_word(has_bounds: bool, mode: Mode) -> &'static str {
     match mode {
-        Mode::Outside => { if reviewed.has_bounds { "off" } else { "" } }
+        Mode::Outside => { if has_bounds { "off" } else { "" } }
         Mode::Inside => "on",
         Mode::Either => "maybe",
         Mode::Unreached => "not reached",
@@ -158,9 +158,13 @@ fn remarks_at(
 }
 
 /// Whether a rule is broken at a point.
-fn is_broken_at(reviewed: &Reviewed<'_>, program: u8, point: usize) -> bool {
-    reviewed.findings.iter().any(|found| found.program == program
-        && usize::from(found.point) == point)
+fn is_broken_at(findings: &[BrokenRule], program: u8, point: usize) -> bool {
+    for found in findings {
+        if found.program == program && usize::from(found.point) == point {
+            return true;
+        }
+    }
+    false
 }
 
 /// The line of a source line without a point.
@@ -190,35 +194,37 @@ fn point_line(
     source: &SourceLine<'_>,
     point: usize,
 ) -> Line {
-    let mode = mode_of(reviewed, viewed, point);
+    let (has_bounds, bounds) = (reviewed.has_bounds, viewed.bounds.as_slice());
+    let mode = mode_of(has_bounds, bounds, point);
     let is_new = match point.checked_sub(1) {
         None => true,
-        Some(before) => mode_of(reviewed, viewed, before) != mode,
+        Some(before) => mode_of(has_bounds, bounds, before) != mode,
     };
     let (text, tail) = source.instruction.split_at(tail_begin(source.instruction));
+    let grants = reviewed.scene.task.grants();
     Line {
         number: source.number,
         point: Some(short(point)),
         mode,
         mode_word: if is_new {
-            mode_word(reviewed, mode)
+            mode_word(has_bounds, mode)
         } else {
             ""
         },
-        states: states_at(room, reviewed, viewed, numbers, point),
+        states: states_at(room, grants, bounds, numbers, point),
         indent: room.text(source.before),
         text: room.text(text),
         tail: room.text(tail),
         comment: room.text(source.behind),
-        is_broken: is_broken_at(reviewed, viewed.number, point),
-        changes: changes_at(room, reviewed, viewed, numbers, point),
+        is_broken: is_broken_at(reviewed.findings, viewed.number, point),
+        changes: changes_at(room, grants, bounds, numbers, point),
         remarks: remarks_at(room, reviewed, viewed, point),
     }
 }
 
 /// A program's source, line by line.
 fn listing_of(room: &mut Room, reviewed: &Reviewed<'_>, viewed: &Viewed<'_>) -> Listing {
-    let numbers = numbers_of(room, viewed);
+    let numbers = numbers_of(room, &viewed.bounds);
     let mut lines = room.list();
     if let Some(text) = reviewed.scene.texts.get(usize::from(viewed.number)) {
         let sources = text.source_lines(room.alloc(), reviewed.scene.file);

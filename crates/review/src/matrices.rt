@@ -77,29 +77,28 @@ impl Share {
             mark: Mark::None,
             is_allowed: false,
         }; RIGHTS];
-        for (cell, right) in cells.iter_mut().zip(&COLUMNS) {
-            *cell = self.cell(*right);
+        for column in 0..RIGHTS {
+            cells[column] = self.cell(COLUMNS[column]);
         }
         cells
     }
 }
 
-/// How many of some cells have one of these marks.
-fn count_marks(cells: &[Cell], marks: &[Mark]) -> u32 {
-    let mut count: u32 = 0;
-    for cell in cells {
-        if marks.contains(&cell.mark) {
-            count = count.saturating_add(1);
-        }
-    }
-    count
-}
-
 /// How many rights are held, used and beyond the grant, in words.
 fn count_text(room: &mut Room, cells: &[Cell]) -> Vec<u8> {
-    let used = count_marks(cells, &[Mark::Used, Mark::Broken]);
-    let beyond = count_marks(cells, &[Mark::Beyond, Mark::Broken]);
-    let held = count_marks(cells, &[Mark::Used, Mark::Idle, Mark::Beyond, Mark::Broken]);
+    let (mut held, mut used, mut beyond): (u32, u32, u32) = (0, 0, 0);
+    for cell in cells {
+        let (is_held, is_used, is_beyond) = match cell.mark {
+            Mark::None => (0, 0, 0),
+            Mark::Used => (1, 1, 0),
+            Mark::Idle => (1, 0, 0),
+            Mark::Beyond => (1, 0, 1),
+            Mark::Broken => (1, 1, 1),
+        };
+        held = held.saturating_add(is_held);
+        used = used.saturating_add(is_used);
+        beyond = beyond.saturating_add(is_beyond);
+    }
     let mut page = Page::new(room.alloc());
     say!(&mut page; used, " of ", held, " used");
     if beyond > 0 {
@@ -123,7 +122,7 @@ fn grant_row(
         used: used_on_side(viewed, Side::Inside, &target),
         beyond: unlisted_rights(grants, &grant.name, held),
         unlisted: unlisted_rights(grants, &grant.name, Rights::all()),
-        is_broken: is_broken_in(reviewed, viewed, Side::Inside, &target),
+        is_broken: is_broken_in(reviewed.findings, viewed, Side::Inside, &target),
     };
     let cells = share.cells();
     MatrixRow {
@@ -178,12 +177,6 @@ fn rows_of(
     rows
 }
 
-/// Whether some process may be in the mode with a program.
-fn is_ever_inside(viewed: &Viewed<'_>) -> bool {
-    viewed.named.untrusted
-        || (0..viewed.bounds.len()).any(|point| viewed.bound_in(Side::Inside, point).is_some())
-}
-
 /// The rights in the mode, if some process may be in it.
 pub(crate) fn matrix_of(
     room: &mut Room,
@@ -192,7 +185,7 @@ pub(crate) fn matrix_of(
 ) -> Option<Matrix> {
     let mut groups = room.list();
     for viewed in views {
-        if is_ever_inside(viewed) {
+        if viewed.is_ever_inside() {
             let holdings = held_inside(room, reviewed, viewed);
             let group = MatrixGroup {
                 title: room.text(parts_of!(viewed.named.name.as_bytes(), " in the mode")),
@@ -204,6 +197,6 @@ pub(crate) fn matrix_of(
     if groups.is_empty() || !reviewed.has_bounds {
         return None;
     }
-    let points = point_groups(room, reviewed, views);
+    let points = point_groups(room, reviewed.scene.task.grants(), views);
     Some(Matrix { groups, points })
 }

@@ -65,9 +65,13 @@ impl Queues {
             pair: end.pair,
             side: end.side.other(),
         };
-        let place = self.sent.iter().position(|sent| sent.end == other)?;
-        let sent = self.sent.remove(place);
-        Some(sent.message)
+        for place in 0..self.sent.len() {
+            if self.sent[place].end == other {
+                let sent = self.sent.remove(place);
+                return Some(sent.message);
+            }
+        }
+        None
     }
 }
 
@@ -97,10 +101,12 @@ fn end_of(
     process: &Process,
     operand: Operand,
 ) -> Option<End> {
-    let at = u8::try_from(value_of(process, operand)).ok()?;
-    match object_at(machine.files(), number, at)? {
-        Object::End { end, .. } => Some(end),
-        Object::Node { .. } => None,
+    let Ok(at) = u8::try_from(value_of(process, operand)) else {
+        return None;
+    };
+    match object_at(machine.files(), number, at) {
+        Some(Object::End { end, .. }) => Some(end),
+        _ => None,
     }
 }
 
@@ -118,30 +124,33 @@ pub(crate) fn next_call<'t>(
     machine: &Machine<'_, LinkTree>,
     number: u8,
 ) -> Option<&'t Syscall> {
-    let process = machine.processes().get(usize::from(number))?;
-    let named = task.programs().get(usize::from(process.program))?;
-    call_in(named.program.code().get(usize::from(process.point))?)
+    let Some(process) = machine.processes().get(usize::from(number)) else {
+        return None;
+    };
+    let Some(named) = task.programs().get(usize::from(process.program)) else {
+        return None;
+    };
+    match named.program.code().get(usize::from(process.point)) {
+        Some(instruction) => call_in(instruction),
+        None => None,
+    }
 }
 
-/// What a process does with a queue by a call that succeeds, if it does something.
-fn queue_traffic(machine: &Machine<'_, LinkTree>, number: u8, call: &Syscall) -> Option<Traffic> {
-    let process = machine.processes().get(usize::from(number))?;
+/// What a process does with a queue by a call that succeeds; nothing where that goes through no end.
+pub(crate) fn traffic_of(machine: &Machine<'_, LinkTree>, number: u8, call: &Syscall) -> Traffic {
     let (operand, sends, carries) = match call {
         Syscall::Write { descriptor, .. } => (*descriptor, true, false),
         Syscall::Sendfd { descriptor, .. } => (*descriptor, true, true),
         Syscall::Read { descriptor } => (*descriptor, false, false),
         Syscall::Recvfd { descriptor } => (*descriptor, false, true),
-        _ => return None,
+        _ => return Traffic::Nothing,
     };
-    let end = end_of(machine, number, process, operand)?;
-    Some(if sends {
-        Traffic::Sends { end, carries }
-    } else {
-        Traffic::Takes { end, carries }
-    })
-}
-
-/// What a process does with a queue by a call that succeeds; nothing where that goes through no end.
-pub(crate) fn traffic_of(machine: &Machine<'_, LinkTree>, number: u8, call: &Syscall) -> Traffic {
-    queue_traffic(machine, number, call).unwrap_or(Traffic::Nothing)
+    let Some(process) = machine.processes().get(usize::from(number)) else {
+        return Traffic::Nothing;
+    };
+    match end_of(machine, number, process, operand) {
+        None => Traffic::Nothing,
+        Some(end) if sends => Traffic::Sends { end, carries },
+        Some(end) => Traffic::Takes { end, carries },
+    }
 }

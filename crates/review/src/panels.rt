@@ -1,33 +1,35 @@
 //! The panels of the file tree, and the picture in words.
 
 use crate::room::Room;
-use crate::views::Reviewed;
 use page::{Half, Panel, Piece, Program};
-use task::{Grant, TaskNode};
+use task::{Grant, Task, TaskNode};
 use texts::{Page, parts_of, say};
 
 /// Whether a node lies in a grant.
 fn is_granted(grants: &[Grant], node: &TaskNode) -> bool {
-    grants
-        .iter()
-        .any(|grant| node.place.begins_with(&grant.path))
+    for grant in grants {
+        if node.place.begins_with(&grant.path) {
+            return true;
+        }
+    }
+    false
 }
 
 /// The panel of a grant: what it allows, and the nodes beneath it by their places from there on.
-pub(crate) fn grant_panel(room: &mut Room, reviewed: &Reviewed<'_>, grant: &Grant) -> Panel {
+pub(crate) fn grant_panel(room: &mut Room, nodes: &[TaskNode], grant: &Grant) -> Panel {
     let mut allows = Page::new(room.alloc());
     say!(&mut allows; if grant.operations.is_empty() { "allows nothing" } else { "allows" });
     for operation in &grant.operations {
         say!(&mut allows; " ", *operation);
     }
-    let mut nodes = Page::new(room.alloc());
+    let mut beneath = Page::new(room.alloc());
     let mut separator = "";
     let front = grant.path.names_text().len();
-    for node in reviewed.scene.task.nodes() {
+    for node in nodes {
         if node.place.begins_with(&grant.path) {
-            if let Some(beneath) = node.place.names_text().get(front..) {
-                if !beneath.is_empty() {
-                    say!(&mut nodes; separator, beneath.strip_prefix(b"/".as_slice()).unwrap_or(beneath));
+            if let Some(rest) = node.place.names_text().get(front..) {
+                if !rest.is_empty() {
+                    say!(&mut beneath; separator, rest.strip_prefix(b"/".as_slice()).unwrap_or(rest));
                     separator = " ";
                 }
             }
@@ -38,13 +40,12 @@ pub(crate) fn grant_panel(room: &mut Room, reviewed: &Reviewed<'_>, grant: &Gran
         name: room.text(grant.name.as_bytes()),
         path: room.text(grant.path.text()),
         allows: room.bytes(allows),
-        nodes: room.bytes(nodes),
+        nodes: room.bytes(beneath),
     }
 }
 
 /// The panel of what lies in no grant.
-pub(crate) fn other_panel(room: &mut Room, reviewed: &Reviewed<'_>) -> Panel {
-    let task = reviewed.scene.task;
+pub(crate) fn other_panel(room: &mut Room, task: &Task) -> Panel {
     let mut nodes = Page::new(room.alloc());
     let mut separator = "";
     for node in task.nodes() {

@@ -1,12 +1,15 @@
 //! Who reaches what: the boxes of the programs and the panels of the file tree.
 
+ghost use Rattle.std.specs.Prelude.{None};
+
 use crate::holdings::{HeldEnd, Holdings, held_at_start, held_inside, held_on_side};
 use crate::panels::{grant_panel, other_panel, picture_words};
 use crate::room::{Room, short};
 use crate::uses::{broken_on_side, is_broken_in};
 use crate::views::{Reviewed, Side, Viewed};
 use bitflags::Flags;
-use certificate::{Class, Target as Kind};
+use certificate::{Cert, Class, Target as Kind};
+use checker::BrokenRule;
 use explain::add_points;
 use instruction_set::{Instruction, Syscall};
 use page::{Half, HalfKind, Note, Picture, Program, Row, Target, Tone};
@@ -36,22 +39,22 @@ fn count_rights(rights: Rights) -> u32 {
 }
 
 /// Rights with blanks between them.
-fn say_rights(page: &mut Page, rights: Rights) {
-    if rights == Rights::all() {
-        return "all rights".say(page);
-    }
-    let mut separator: &[u8] = b"";
-    for (name, _right) in Flags::iter_names(&rights) {
-        say!(page; separator, name);
-        separator = b" ";
-    }
-}
+#[derive(Clone, Copy)]
+struct Spaced(Rights);
 
-/// The text of rights.
-fn rights_text(room: &mut Room, rights: Rights) -> Vec<u8> {
-    let mut page = Page::new(room.alloc());
-    say_rights(&mut page, rights);
-    room.bytes(page)
+impl Say for Spaced {
+    ghost said = { λ rights. None };
+
+    fn say(self, page: &mut Page) {
+        if self.0 == Rights::all() {
+            return "all rights".say(page);
+        }
+        let mut separator: &[u8] = b"";
+        for (name, _right) in Flags::iter_names(&self.0) {
+            say!(page; separator, name);
+            separator = b" ";
+        }
+    }
 }
 
 /// What is said of a grant's row: how many rights are beyond the grant, and whether a rule is broken there.
@@ -105,11 +108,11 @@ fn grant_row(
     let task = reviewed.scene.task;
     let target = Kind::InGrant(grant.name);
     let beyond = unlisted_rights(task.grants(), &grant.name, rights);
-    let is_broken = is_broken_in(reviewed, of.viewed, of.side, &target);
+    let is_broken = is_broken_in(reviewed.findings, of.viewed, of.side, &target);
     let tone = grant_tone(beyond, is_broken);
     Row {
         name: room.text(grant.name.as_bytes()),
-        held: rights_text(room, rights),
+        held: room.text(Spaced(rights)),
         notes: grant_notes(room, beyond, is_broken),
         target: Target::Panel(place),
         tone,
@@ -119,12 +122,12 @@ fn grant_row(
 }
 
 /// The row of what lies in no grant.
-fn nowhere_row(room: &mut Room, reviewed: &Reviewed<'_>, rights: Rights) -> Row {
+fn nowhere_row(room: &mut Room, place: usize, rights: Rights) -> Row {
     Row {
         name: room.text("in no grant"),
-        held: rights_text(room, rights),
+        held: room.text(Spaced(rights)),
         notes: room.list(),
-        target: Target::Panel(reviewed.scene.task.grants().len()),
+        target: Target::Panel(place),
         tone: Tone::Broken,
         wire: Tone::Broken,
         takes: false,
@@ -132,45 +135,45 @@ fn nowhere_row(room: &mut Room, reviewed: &Reviewed<'_>, rights: Rights) -> Row 
 }
 
 /// What an end sends, by the line of its channel: a descriptor, if it sends one.
-fn end_note(room: &mut Room, reviewed: &Reviewed<'_>, end: &HeldEnd) -> Vec<Note> {
+fn end_note(room: &mut Room, cert: &Cert, end: &HeldEnd) -> Vec<Note> {
     let mut notes = room.list();
-    let Some(channel) = channel_at(reviewed.scene.cert, &end.class, end.side) else {
+    let Some(channel) = channel_at(cert, &end.class, end.side) else {
         return notes;
     };
-    let mut page = Page::new(room.alloc());
-    let tone = match channel.sends() {
-        None => {
-            say!(&mut page; "sends bytes alone");
-            Tone::Faint
-        }
+    let note = match channel.sends() {
+        None => Note {
+            tone: Tone::Faint,
+            text: room.text("sends bytes alone"),
+        },
         Some(held) => {
-            say!(&mut page; "sends ", held.target(), " ");
-            say_rights(&mut page, held.rights().greatest());
-            Tone::InMode
+            let rights = Spaced(held.rights().greatest());
+            Note {
+                tone: Tone::InMode,
+                text: room.text(parts_of!("sends ", held.target(), " ", rights)),
+            }
         }
     };
-    let text = room.bytes(page);
-    room.push(&mut notes, Note { tone, text });
+    room.push(&mut notes, note);
     notes
 }
 
 /// Whether an end sends descriptors.
-fn sends_descriptors(reviewed: &Reviewed<'_>, class: &Class, side: certificate::Side) -> bool {
-    match channel_at(reviewed.scene.cert, class, side) {
+fn sends_descriptors(cert: &Cert, class: &Class, side: certificate::Side) -> bool {
+    match channel_at(cert, class, side) {
         Some(channel) => channel.sends().is_some(),
         None => false,
     }
 }
 
 /// The row of an end of a pair.
-fn end_row(room: &mut Room, reviewed: &Reviewed<'_>, classes: &mut Classes, end: &HeldEnd) -> Row {
-    let takes = sends_descriptors(reviewed, &end.class, end.side.other());
-    let passes = takes || sends_descriptors(reviewed, &end.class, end.side);
+fn end_row(room: &mut Room, cert: &Cert, classes: &mut Classes, end: &HeldEnd) -> Row {
+    let takes = sends_descriptors(cert, &end.class, end.side.other());
+    let passes = takes || sends_descriptors(cert, &end.class, end.side);
     let number = class_number(room, classes, end.class);
     Row {
         name: room.text(parts_of!("pair ", end.class, " ", end.side)),
-        held: rights_text(room, end.rights),
-        notes: end_note(room, reviewed, end),
+        held: room.text(Spaced(end.rights)),
+        notes: end_note(room, cert, end),
         target: Target::Pair(number),
         tone: Tone::Plain,
         wire: if passes { Tone::InMode } else { Tone::Faint },
@@ -193,11 +196,11 @@ fn rows_inside(
         }
     }
     if let Some(rights) = of.holdings.nowhere {
-        let row = nowhere_row(room, reviewed, rights);
+        let row = nowhere_row(room, reviewed.scene.task.grants().len(), rights);
         room.push(&mut rows, row);
     }
     for end in &of.holdings.ends {
-        let row = end_row(room, reviewed, classes, end);
+        let row = end_row(room, reviewed.scene.cert, classes, end);
         room.push(&mut rows, row);
     }
     rows
@@ -206,7 +209,7 @@ fn rows_inside(
 /// The rows of a half outside the mode: the ends that the half in the mode hasn't.
 fn rows_outside(
     room: &mut Room,
-    reviewed: &Reviewed<'_>,
+    cert: &Cert,
     classes: &mut Classes,
     outside: &Holdings,
     inside: &Holdings,
@@ -214,7 +217,7 @@ fn rows_outside(
     let mut rows = room.list();
     for end in &outside.ends {
         if !inside.has_end(end) {
-            let row = end_row(room, reviewed, classes, end);
+            let row = end_row(room, cert, classes, end);
             room.push(&mut rows, row);
         }
     }
@@ -224,11 +227,11 @@ fn rows_outside(
 /// How many rules a half breaks, in words.
 fn breaks(
     room: &mut Room,
-    reviewed: &Reviewed<'_>,
+    findings: &[BrokenRule],
     viewed: &Viewed<'_>,
     side: Side,
 ) -> Option<Vec<u8>> {
-    match broken_on_side(reviewed, viewed, side) {
+    match broken_on_side(findings, viewed, side) {
         0 => None,
         1 => Some(room.text("breaks 1 rule")),
         count => Some(room.text(parts_of!("breaks rules at ", count, " places"))),
@@ -250,8 +253,8 @@ fn outside_half(
         kind: HalfKind::Outside,
         title: room.text("outside the mode"),
         points: points_text(room, points),
-        breaks: breaks(room, reviewed, viewed, Side::Outside),
-        rows: rows_outside(room, reviewed, classes, &holdings, inside),
+        breaks: breaks(room, reviewed.findings, viewed, Side::Outside),
+        rows: rows_outside(room, reviewed.scene.cert, classes, &holdings, inside),
     }
 }
 
@@ -282,7 +285,7 @@ fn inside_half(
         } else {
             points_text(room, points)
         },
-        breaks: breaks(room, reviewed, viewed, Side::Inside),
+        breaks: breaks(room, reviewed.findings, viewed, Side::Inside),
         rows: rows_inside(room, reviewed, classes, of),
     }
 }
@@ -375,6 +378,20 @@ fn points_text(room: &mut Room, points: &[usize]) -> Vec<u8> {
     room.bytes(page)
 }
 
+/// Whether a program makes processes.
+fn forks(viewed: &Viewed<'_>) -> bool {
+    for instruction in viewed.named.program.code() {
+        if let Instruction::Invoke {
+            call: Syscall::Fork,
+            ..
+        } = instruction
+        {
+            return true;
+        }
+    }
+    false
+}
+
 /// The first processes of a program.
 fn processes_text(room: &mut Room, reviewed: &Reviewed<'_>, viewed: &Viewed<'_>) -> Vec<u8> {
     let mut page = Page::new(room.alloc());
@@ -385,16 +402,7 @@ fn processes_text(room: &mut Room, reviewed: &Reviewed<'_>, viewed: &Viewed<'_>)
             separator = ", ";
         }
     }
-    let forks = viewed.named.program.code().iter().any(|instruction| {
-        matches!(
-            instruction,
-            Instruction::Invoke {
-                call: Syscall::Fork,
-                ..
-            }
-        )
-    });
-    if forks {
+    if forks(viewed) {
         say!(&mut page; " and what it forks");
     }
     room.bytes(page)
@@ -432,10 +440,10 @@ pub(crate) fn picture_of(
     }
     let mut panels = room.list();
     for grant in reviewed.scene.task.grants() {
-        let panel = grant_panel(room, reviewed, grant);
+        let panel = grant_panel(room, reviewed.scene.task.nodes(), grant);
         room.push(&mut panels, panel);
     }
-    let panel = other_panel(room, reviewed);
+    let panel = other_panel(room, reviewed.scene.task);
     room.push(&mut panels, panel);
     let words = picture_words(room, &programs, &panels);
     Picture {

@@ -2,9 +2,10 @@
 
 use crate::holdings::grant_place;
 use crate::room::{Room, short};
-use crate::views::{Reviewed, Viewed};
+use crate::views::Viewed;
 use certificate::{Bound, ModeBound, Target};
 use page::{Piece, Place, PointGroup};
+use task::Grant;
 use texts::{Name, Page, parts_of, say};
 
 /// Where a process is to the mode, in words.
@@ -17,15 +18,15 @@ fn mode_words(mode: ModeBound) -> &'static str {
 }
 
 /// A grant's name, if the task has the grant.
-fn known_grant(reviewed: &Reviewed<'_>, name: Name) -> Option<Name> {
-    match grant_place(reviewed.scene.task.grants(), &name) {
+fn known_grant(grants: &[Grant], name: Name) -> Option<Name> {
+    match grant_place(grants, &name) {
         None => None,
         Some(_) => Some(name),
     }
 }
 
 /// What a bound says of nodes: each number that may be open on what lies in a grant, or in none.
-fn bound_text(room: &mut Room, reviewed: &Reviewed<'_>, bound: &Bound) -> Vec<u8> {
+fn bound_text(room: &mut Room, grants: &[Grant], bound: &Bound) -> Vec<u8> {
     let mut page = Page::new(room.alloc());
     say!(&mut page; mode_words(bound.mode()), ": ");
     let mut separator = "";
@@ -36,7 +37,7 @@ fn bound_text(room: &mut Room, reviewed: &Reviewed<'_>, bound: &Bound) -> Vec<u8
         let rights = held.rights().greatest();
         let grant = match held.target() {
             Target::Socket(..) => continue,
-            Target::InGrant(name) => known_grant(reviewed, name),
+            Target::InGrant(name) => known_grant(grants, name),
             Target::AnyNode | Target::Unknown => None,
         };
         match grant {
@@ -60,10 +61,10 @@ struct Stretch {
 }
 
 /// A stretch in a sentence.
-fn stretch_sentence(room: &mut Room, viewed: &Viewed<'_>, stretch: &Stretch) -> Vec<Piece> {
+fn stretch_sentence(room: &mut Room, program: Name, stretch: &Stretch) -> Vec<Piece> {
     let mut sentence = room.list();
     let place = Place {
-        program: viewed.named.name,
+        program,
         point: short(stretch.first),
     };
     if stretch.first == stretch.last {
@@ -98,17 +99,17 @@ fn add_point(room: &mut Room, stretches: &mut Vec<Stretch>, point: usize, text: 
 }
 
 /// What is held point by point in a program.
-fn point_group(room: &mut Room, reviewed: &Reviewed<'_>, viewed: &Viewed<'_>) -> PointGroup {
+fn point_group(room: &mut Room, grants: &[Grant], viewed: &Viewed<'_>) -> PointGroup {
     let mut stretches = room.list();
     for (point, bound) in viewed.bounds.iter().enumerate() {
         if let Some(bound) = bound {
-            let text = bound_text(room, reviewed, bound);
+            let text = bound_text(room, grants, bound);
             add_point(room, &mut stretches, point, text);
         }
     }
     let mut items = room.list();
     for stretch in &stretches {
-        let sentence = stretch_sentence(room, viewed, stretch);
+        let sentence = stretch_sentence(room, viewed.named.name, stretch);
         room.push(&mut items, sentence);
     }
     PointGroup {
@@ -120,12 +121,12 @@ fn point_group(room: &mut Room, reviewed: &Reviewed<'_>, viewed: &Viewed<'_>) ->
 /// What is held point by point.
 pub(crate) fn point_groups(
     room: &mut Room,
-    reviewed: &Reviewed<'_>,
+    grants: &[Grant],
     views: &[Viewed<'_>],
 ) -> Vec<PointGroup> {
     let mut groups = room.list();
     for viewed in views {
-        let group = point_group(room, reviewed, viewed);
+        let group = point_group(room, grants, viewed);
         if !group.items.is_empty() {
             room.push(&mut groups, group);
         }

@@ -1,6 +1,6 @@
 //! Where the parts of a page are made.
 
-use page::{Piece, Place};
+use page::{Item, Piece, Place};
 use std::alloc::{AllocError, Global};
 use texts::{Page, Say};
 
@@ -76,6 +76,12 @@ impl Room {
     pub(crate) fn link<S: Say>(&mut self, sentence: &mut Vec<Piece>, place: Place, said: S) {
         let words = self.text(said);
         self.push(sentence, Piece::Link(place, words));
+    }
+
+    /// Adds an item with nothing below it.
+    pub(crate) fn item(&mut self, items: &mut Vec<Item>, words: Vec<Piece>) {
+        let below = self.list();
+        self.push(items, Item { words, below });
     }
 
     /// A sentence of words alone.

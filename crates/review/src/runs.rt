@@ -14,7 +14,7 @@ use rights::limits::REGISTERS;
 use rights::{Memory, Stop};
 use simulator::{Acted, Line, LineResult, Machine};
 use task::Task;
-use texts::{Page, parts_of, say};
+use texts::{Page, Say, parts_of, say};
 
 /// How many steps are shown at most: the last ones.
 const MAX_STEPS: usize = 256;
@@ -104,12 +104,23 @@ impl<'a> Player<'a> {
 
     /// Takes what an attacker's process is at, if it is at something.
     fn take_doing(&mut self, process: u8) -> Option<Vec<u8>> {
-        let place = self
-            .doings
-            .iter()
-            .position(|doing| doing.process == process)?;
-        let doing = self.doings.remove(place);
-        Some(doing.words)
+        for place in 0..self.doings.len() {
+            if self.doings[place].process == process {
+                let doing = self.doings.remove(place);
+                return Some(doing.words);
+            }
+        }
+        None
+    }
+
+    /// Whether an attacker's process is at something.
+    fn is_doing(&self, process: u8) -> bool {
+        for doing in &self.doings {
+            if doing.process == process {
+                return true;
+            }
+        }
+        false
     }
 
     /// What a process does with a queue, if the call of its move succeeds.
@@ -117,7 +128,7 @@ impl<'a> Player<'a> {
         let process = played.event.process;
         let call: Option<&Syscall> = match &played.deed {
             Some(deed) => call_in(deed.instruction()),
-            None if self.doings.iter().any(|doing| doing.process == process) => None,
+            None if self.is_doing(process) => None,
             None => next_call(self.task, &self.machine, process),
         };
         match call {
@@ -216,17 +227,37 @@ fn acting_processes(room: &mut Room, steps: &[Acting]) -> Vec<u8> {
 
 /// The lane of a process.
 fn lane_of(steps: &[Acting], process: u8) -> Lane {
-    let first = steps.iter().find(|step| step.process == process);
-    Lane {
-        forked_at: steps.iter().position(|step| step.made == Some(process)),
-        enters_at: steps.iter().position(|step| step.process == process
-            && !step.is_inside
-            && step.stays_inside),
-        is_inside: match first {
-            Some(step) => step.is_inside,
-            None => false,
-        },
+    let mut lane = Lane {
+        forked_at: None,
+        enters_at: None,
+        is_inside: false,
+    };
+    let mut is_first = true;
+    for (at, step) in steps.iter().enumerate() {
+        if step.process == process {
+            if is_first {
+                lane.is_inside = step.is_inside;
+                is_first = false;
+            }
+            if lane.enters_at.is_none() && !step.is_inside && step.stays_inside {
+                lane.enters_at = Some(at);
+            }
+        }
+        if lane.forked_at.is_none() && step.made == Some(process) {
+            lane.forked_at = Some(at);
+        }
     }
+    lane
+}
+
+/// Which lane is that of a process, counted from 0.
+fn lane_number(processes: &[u8], process: u8) -> Option<usize> {
+    for (lane, found) in processes.iter().enumerate() {
+        if *found == process {
+            return Some(lane);
+        }
+    }
+    None
 }
 
 /// What a step answers.
@@ -271,11 +302,13 @@ fn instruction_texts<'s>(step: &'s Acting, written: &'s [u8]) -> (&'s [u8], &'s 
 
 /// A message whose step is shown, among those from one on.
 fn shown_message(message: Message, first: usize) -> Option<Message> {
-    let sent_at = message.sent_at.checked_sub(first)?;
-    Some(Message {
-        sent_at,
-        is_descriptor: message.is_descriptor,
-    })
+    match message.sent_at.checked_sub(first) {
+        None => None,
+        Some(sent_at) => Some(Message {
+            sent_at,
+            is_descriptor: message.is_descriptor,
+        }),
+    }
 }
 
 /// The step as a page shows it, among those from one on.
@@ -286,18 +319,17 @@ fn shown_step(
     first: usize,
     step: &Acting,
 ) -> Option<Step> {
-    let named = reviewed
-        .scene
-        .task
-        .programs()
-        .get(usize::from(step.acted.program))?;
+    let programs = reviewed.scene.task.programs();
+    let (Some(named), Some(lane)) = (
+        programs.get(usize::from(step.acted.program)),
+        lane_number(processes, step.process),
+    ) else {
+        return None;
+    };
     let written = reviewed.scene.written(step.acted.program, step.acted.point);
     let (text, tail) = instruction_texts(step, written.text);
-    let made = step.made.and_then(|made| processes.iter().position(|process| *process == made));
     Some(Step {
-        lane: processes
-            .iter()
-            .position(|process| *process == step.process)?,
+        lane,
         who: room.text(parts_of!(step.process, " ", named.name.as_bytes())),
         line: written.line,
         place: Place {
@@ -309,14 +341,26 @@ fn shown_step(
         result: result_text(room, step.acted.outcome),
         deed: deed_text(room, step),
         is_inside: step.is_inside,
-        forks: made,
-        takes: step.takes.and_then(|message| shown_message(message, first)),
+        forks: match step.made {
+            None => None,
+            Some(made) => lane_number(processes, made),
+        },
+        takes: match step.takes {
+            None => None,
+            Some(message) => shown_message(message, first),
+        },
     })
 }
 
-/// What a run breaks at its last step.
-pub(crate) fn end_of(room: &mut Room, breach: &Breach, detail: &[u8]) -> Vec<Piece> {
+/// What a run breaks at its last step, behind some words.
+pub(crate) fn end_of(
+    room: &mut Room,
+    words: &'static str,
+    breach: &Breach,
+    detail: &[u8],
+) -> Vec<Piece> {
     let mut page = Page::new(room.alloc());
+    words.say(&mut page);
     explore::add_breach(&mut page, breach, detail);
     let end = room.bytes(page);
     room.sentence(end.strip_suffix(b"\n".as_slice()).unwrap_or(&end))

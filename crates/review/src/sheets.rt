@@ -8,6 +8,7 @@ use crate::played::played_events;
 use crate::room::Room;
 use crate::runs::{end_of, run_of};
 use crate::views::{Outcome, Reviewed, views_of};
+use checker::Rule;
 use checker::rule::RULES;
 use explain::{rule_advice, rule_title, rule_words};
 use page::{RuleText, Run, Sheet};
@@ -15,15 +16,25 @@ use rights::Memory;
 use std::alloc::Global;
 use texts::parts_of;
 
+/// Whether a rule is broken.
+fn is_broken(reviewed: &Reviewed<'_>, rule: Rule) -> bool {
+    for found in reviewed.findings {
+        if found.rule == rule {
+            return true;
+        }
+    }
+    false
+}
+
 /// The rules that are broken, each once, in words.
 fn broken_rules(room: &mut Room, reviewed: &Reviewed<'_>) -> Vec<RuleText> {
     let mut rules = room.list();
-    for rule in RULES {
-        if reviewed.findings.iter().any(|found| found.rule == rule) {
+    for rule in &RULES {
+        if is_broken(reviewed, *rule) {
             let text = RuleText {
                 number: rule.number(),
-                name: room.text(rule_title(rule)),
-                text: room.text(parts_of!(rule_words(rule), ". ", rule_advice(rule))),
+                name: room.text(rule_title(*rule)),
+                text: room.text(parts_of!(rule_words(*rule), ". ", rule_advice(*rule))),
             };
             room.push(&mut rules, text);
         }
@@ -36,7 +47,7 @@ fn found_run(room: &mut Room, reviewed: &Reviewed<'_>) -> Result<Option<Run>, Me
     match reviewed.outcome {
         Outcome::Broken(found) => {
             let played = played_events(room, &found.events);
-            let end = end_of(room, &found.breach, &found.detail);
+            let end = end_of(room, "", &found.breach, &found.detail);
             Ok(Some(run_of(room, reviewed, &played, end)?))
         }
         Outcome::Attacked {
@@ -44,7 +55,7 @@ fn found_run(room: &mut Room, reviewed: &Reviewed<'_>) -> Result<Option<Run>, Me
             detail,
             played,
         } => {
-            let end = end_of(room, breach, detail);
+            let end = end_of(room, "", breach, detail);
             Ok(Some(run_of(room, reviewed, played, end)?))
         }
         Outcome::Accepted | Outcome::Refused | Outcome::Undecided => Ok(None),
@@ -54,15 +65,18 @@ fn found_run(room: &mut Room, reviewed: &Reviewed<'_>) -> Result<Option<Run>, Me
 /// The command that answers the same.
 fn command_of(room: &mut Room, reviewed: &Reviewed<'_>) -> Vec<u8> {
     let task = reviewed.task_file;
-    match (reviewed.cert_file, reviewed.outcome) {
-        (Some(cert), Outcome::Accepted) => room.text(parts_of!("capwhy list ", task, " ", cert)),
-        (Some(cert), _) => room.text(parts_of!("capwhy no ", task, " ", cert)),
-        (None, Outcome::Broken(_) | Outcome::Attacked { .. }) => room.text(parts_of!(
-            "capwhy breach ",
-            task
-        )),
-        (None, _) => room.text(parts_of!("capwhy none ", task)),
+    if let Some(cert) = reviewed.cert_file {
+        let command = match reviewed.outcome {
+            Outcome::Accepted => "capwhy list ",
+            _ => "capwhy no ",
+        };
+        return room.text(parts_of!(command, task, " ", cert));
     }
+    let command = match reviewed.outcome {
+        Outcome::Broken(_) | Outcome::Attacked { .. } => "capwhy breach ",
+        _ => "capwhy none ",
+    };
+    room.text(parts_of!(command, task))
 }
 
 /// The sheet of a page. Want of memory is the only error.

@@ -1,8 +1,8 @@
 //! Which rights calls use in a grant, and which grants a broken rule is about.
 
-use crate::views::{Reviewed, Side, Viewed};
+use crate::views::{Side, Viewed};
 use certificate::Target;
-use checker::Rule;
+use checker::{BrokenRule, Rule};
 use remarks::uses_of;
 use rights::Rights;
 
@@ -31,22 +31,26 @@ pub(crate) fn used_on_side(viewed: &Viewed<'_>, side: Side, target: &Target) -> 
 
 /// Whether a rule is broken by a call of a half that goes through what a target may be.
 pub(crate) fn is_broken_in(
-    reviewed: &Reviewed<'_>,
+    findings: &[BrokenRule],
     viewed: &Viewed<'_>,
     side: Side,
     target: &Target,
 ) -> bool {
-    reviewed.findings.iter().any(|found| {
-        found.program == viewed.number
+    for found in findings {
+        if found.program == viewed.number
             && matches!(found.rule, Rule::OfCall(_))
             && used_at(viewed, side, target, usize::from(found.point)) != Rights::empty()
-    })
+        {
+            return true;
+        }
+    }
+    false
 }
 
 /// How many rules are broken at points of a half.
-pub(crate) fn broken_on_side(reviewed: &Reviewed<'_>, viewed: &Viewed<'_>, side: Side) -> u32 {
+pub(crate) fn broken_on_side(findings: &[BrokenRule], viewed: &Viewed<'_>, side: Side) -> u32 {
     let mut count: u32 = 0;
-    for found in reviewed.findings {
+    for found in findings {
         if found.program == viewed.number
             && viewed.bound_in(side, usize::from(found.point)).is_some()
         {

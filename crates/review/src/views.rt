@@ -92,10 +92,26 @@ impl<'a> Viewed<'a> {
 
     /// The points of a half.
     pub(crate) fn points_in(&self, room: &mut Room, side: Side) -> Vec<usize> {
-        let found = (0..self.named.program.code().len())
-            .filter(|point| self.bound_in(side, *point).is_some())
-            .collect(room.alloc());
-        room.made(found)
+        let mut points = room.list();
+        for point in 0..self.named.program.code().len() {
+            if self.bound_in(side, point).is_some() {
+                room.push(&mut points, point);
+            }
+        }
+        points
+    }
+
+    /// Whether some process may be in the mode with it.
+    pub(crate) fn is_ever_inside(&self) -> bool {
+        if self.named.untrusted {
+            return true;
+        }
+        for point in 0..self.bounds.len() {
+            if self.bound_in(Side::Inside, point).is_some() {
+                return true;
+            }
+        }
+        false
     }
 }
 

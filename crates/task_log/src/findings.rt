@@ -15,7 +15,10 @@ use texts::{Page, say};
 
 /// The line of a point, where that is known.
 fn place_of(scene: &Scene<'_>, program: u8, point: usize) -> Option<Place> {
-    let line = scene.written(program, u8::try_from(point).ok()?).line;
+    let Ok(point) = u8::try_from(point) else {
+        return None;
+    };
+    let line = scene.written(program, point).line;
     if line == 0 {
         return None;
     }
@@ -81,7 +84,10 @@ pub(crate) fn observed(
 ) -> Result<Finding<'static>, AllocError>
     ensures { IfOk result (λ finding. is_error (finding_seen finding).level ≡ false) }
 {
-    let first = observation.points.first().copied().unwrap_or(0);
+    let first = match observation.points.first() {
+        Some(first) => *first,
+        None => 0,
+    };
     Ok(Finding {
         rule: RuleId::Named(observation.topic.name()),
         level: level_of(observation.topic),

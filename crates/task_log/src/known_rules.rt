@@ -57,11 +57,11 @@ pub(crate) fn rule_of_topic(topic: Topic) -> Rule<'static> {
 /// The rules of the checker, and all that is remarked.
 pub(crate) fn known_rules(alloc: Global) -> Result<Vec<Rule<'static>>, AllocError> {
     let mut rules = Vec::new(alloc);
-    for rule in RULES {
-        rules.push(rule_of(rule))?;
+    for rule in &RULES {
+        rules.push(rule_of(*rule))?;
     }
-    for topic in REMARK_TOPICS {
-        rules.push(rule_of_topic(topic))?;
+    for topic in &REMARK_TOPICS {
+        rules.push(rule_of_topic(*topic))?;
     }
     Ok(rules)
 }
@@ -69,8 +69,11 @@ pub(crate) fn known_rules(alloc: Global) -> Result<Vec<Rule<'static>>, AllocErro
 /// Adds what an observation is about, if it isn't there.
 pub(crate) fn add_topic(rules: &mut Vec<Rule<'static>>, topic: Topic) -> Result<(), AllocError> {
     let rule = rule_of_topic(topic);
-    if !rules.iter().any(|known| known.id.is(&rule.id)) {
-        rules.push(rule)?;
+    for known in &*rules {
+        if known.id.is(&rule.id) {
+            return Ok(());
+        }
     }
+    rules.push(rule)?;
     Ok(())
 }

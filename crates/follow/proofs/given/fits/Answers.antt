@@ -1,4 +1,4 @@
-use Rattle.std.proofs.Common.{◌≡◌, List, ℕ, ap, sym, ◌∙◌}
+use Rattle.std.proofs.Common.{List, ℕ, ap, sym, ◌∙◌}
 use Rattle.records.specs.declared.operands.Operand.{Operand as OperandCode}
 use Rattle.records.specs.OperandViews.{operand_seen}
 use Rattle.follow.specs.Given.{fits}

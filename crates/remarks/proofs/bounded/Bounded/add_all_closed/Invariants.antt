@@ -1,0 +1,11 @@
+use Rattle.std.specs.List.{flat_map, range_with_len}
+use Rattle.instruction_set.specs.Views.{code_of}
+use Rattle.remarks.specs.Listed.{never_open_at}
+use Rattle.remarks.specs.RemarkViews.{AddsRemarks, bounds_of}
+use Rattle.remarks.proofs.bounded.Bounded.add_all_closed.Given as goal
+
+-- those of the points before are there
+abbrev pub invariant-loop-point : goal.invariant-loop-point
+invariant-loop-point l =
+    AddsRemarks l.fn.list.items l.list.items
+    (flat_map (never_open_at (code_of l.self.code.now) (bounds_of l.self.bounds.items)) (range_with_len 0 l.point))
