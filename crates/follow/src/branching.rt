@@ -11,6 +11,7 @@ use instruction_set::{Instruction, Operand, Register, Syscall};
 use records::{Entry, Event as Recorded, MadeCall, Outcome};
 use rights::{Call, Errno};
 use syscalls::Event;
+use task::Task;
 use texts::Page;
 
 /// How many entries are looked at whether they may come next.
@@ -37,34 +38,25 @@ pub(crate) fn may_show(
     };
     let names = Names {
         placings: search.placings,
-        namings: &lead.progress.standing.namings,
+        namings: &lead.standing.namings,
         process: usize::from(process),
     };
     same_call(made.call, call.call()) && call_fits(&names, &state.registers, call, &made.operands)
 }
 
-/// Whether the record's call failed as one that the kernel refuses.
-fn is_refusal(made: &MadeCall) -> bool {
-    matches!(
-        made.outcome,
-        Outcome::Failure(Errno::ENFILE | Errno::ENOSPC | Errno::EAGAIN)
-    )
-}
-
-/// The process that the record's call has made, if it has made one.
-fn child_of(made: &MadeCall) -> Option<u32> {
-    match (made.call, made.outcome) {
-        (Call::Fork, Outcome::Success(child)) => Some(child),
-        _ => None,
-    }
-}
-
 /// What a process is to do that shows this call, which is the entry of a place.
 fn awaited_of(process: u8, made: &MadeCall, at: usize) -> Awaited {
+    let child = match (made.call, made.outcome) {
+        (Call::Fork, Outcome::Success(child)) => Some(child),
+        _ => None,
+    };
     Awaited {
         process,
-        child: child_of(made),
-        is_refusal: is_refusal(made),
+        child,
+        is_refusal: matches!(
+            made.outcome,
+            Outcome::Failure(Errno::ENFILE | Errno::ENOSPC | Errno::EAGAIN)
+        ),
         at,
     }
 }
@@ -74,13 +66,12 @@ fn awaited_of(process: u8, made: &MadeCall, at: usize) -> Awaited {
 fn add_call<'a>(search: &Search<'a>, lead: &Lead<'a>, awaited: Awaited, found: &mut Leads<'a>) {
     if awaited.is_refusal {
         let refused = Event {
-            process: awaited.process,
-            input: 0,
             refuse: true,
+            ..event_of(awaited.process, 0)
         };
         add_tried(search, lead, awaited.trial(refused), found);
     }
-    let trial = awaited.trial(event_of(awaited.process));
+    let trial = awaited.trial(event_of(awaited.process, 0));
     let is_shown = add_tried(search, lead, trial, found);
     if !is_shown && has_world(lead) && may_help(search, lead, awaited.process) {
         add_by_world(search, lead, awaited, found);
@@ -104,7 +95,7 @@ fn add_shown<'a>(
         }
         (Recorded::Ended, Some(Instruction::Halt)) => {
             let trial = Trial::Step {
-                event: event_of(process),
+                event: event_of(process, 0),
                 shows: Some(at),
             };
             add_tried(search, lead, trial, found);
@@ -200,18 +191,22 @@ fn add_other(bytes: &mut Page) {
     }
 }
 
-/// The bytes that are tried where one is read into a register at a point: those with which the comparisons right behind it are, and
+/// Adds the bytes that are tried where one is read into a register at a point: those with which the comparisons right behind it are, and
 /// another one; where the register is handed on, those of all comparisons of the task, too.
-fn bytes_at(search: &Search<'_>, code: &[Instruction], point: u8, register: Register) -> Page {
-    let mut bytes = Page::new(search.alloc);
-    add_behind(&mut bytes, code, point, register);
+fn add_tried_bytes(
+    bytes: &mut Page,
+    task: &Task,
+    code: &[Instruction],
+    point: u8,
+    register: Register,
+) {
+    add_behind(bytes, code, point, register);
     if is_handed_on(code, register) {
-        for named in search.task.programs() {
-            add_all(&mut bytes, named.program.code());
+        for named in task.programs() {
+            add_all(bytes, named.program.code());
         }
     }
-    add_other(&mut bytes);
-    bytes
+    add_other(bytes);
 }
 
 /// The bytes that are tried where a process reads one into this register.
@@ -221,49 +216,31 @@ pub(crate) fn inputs(
     process: u8,
     register: Register,
 ) -> Page {
-    match lead.process(process) {
-        Some(state) => {
-            let code = code_of(search.task, state.program);
-            bytes_at(search, code, state.point, register)
-        }
-        None => Page::new(search.alloc),
+    let mut bytes = Page::new(search.alloc);
+    if let Some(state) = lead.process(process) {
+        let code = code_of(search.task, state.program);
+        add_tried_bytes(&mut bytes, search.task, code, state.point, register);
     }
+    bytes
 }
 
-/// The event in which a process reads this byte.
-pub(crate) fn reading(process: u8, input: u8) -> Event {
-    Event {
-        process,
-        input,
-        refuse: false,
-    }
-}
-
-/// Adds the runs in which a process reads a byte: those first in which it may show its next call then, and none in which it is stuck, if it
-/// isn't in all.
-fn add_inputs<'a>(
-    search: &Search<'a>,
-    lead: &Lead<'a>,
-    process: u8,
-    register: Register,
-    found: &mut Leads<'a>,
-) {
-    let bytes = inputs(search, lead, process, register);
+/// Adds the runs in which a process reads a byte, if it stands there: those first in which it may show its next call then, and none in
+/// which it is stuck, if it isn't in all.
+fn add_inputs<'a>(search: &Search<'a>, lead: &Lead<'a>, process: u8, found: &mut Leads<'a>) {
+    let Some(Instruction::In { register }) = lead.instruction(search.task, process) else {
+        return;
+    };
+    let bytes = inputs(search, lead, process, *register);
     found.note(&bytes);
     let first = found.runs.len();
     for input in bytes.as_bytes() {
         let trial = Trial::Step {
-            event: reading(process, *input),
+            event: event_of(process, *input),
             shows: None,
         };
         add_tried(search, lead, trial, found);
     }
     found.prefer_showing(search, process, first);
-}
-
-/// Whether a call may show nothing.
-fn may_be_silent(call: Call) -> bool {
-    is_of_mode(call) || matches!(call, Call::Read | Call::Write)
 }
 
 /// In which turn runs are added that may come next: those that show a call come before those that don't.
@@ -275,17 +252,11 @@ enum Turn {
     Repeated,
 }
 
-/// Adds the runs in which a process reads a byte, if it stands there.
-fn add_bytes<'a>(search: &Search<'a>, lead: &Lead<'a>, process: u8, found: &mut Leads<'a>) {
-    if let Some(Instruction::In { register }) = lead.instruction(search.task, process) {
-        add_inputs(search, lead, process, *register, found);
-    }
-}
-
-/// Adds the run in which a process makes a call that shows nothing.
+/// Adds the run in which a process makes a call that shows nothing, if it may be one.
 fn add_repeated<'a>(search: &Search<'a>, lead: &Lead<'a>, process: u8, found: &mut Leads<'a>) {
     if let Some(Instruction::Invoke { call, .. }) = lead.instruction(search.task, process) {
-        if may_be_silent(call.call()) {
+        let call = call.call();
+        if is_of_mode(call) || matches!(call, Call::Read | Call::Write) {
             add_tried(search, lead, Trial::Silent(process), found);
         }
     }
@@ -300,12 +271,12 @@ fn add_next<'a>(
     turn: Turn,
     found: &mut Leads<'a>,
 ) {
-    let Some(process) = stand_in(&lead.progress.pairs, entry.process) else {
+    let Some(process) = stand_in(&lead.pairs, entry.process) else {
         return;
     };
     match turn {
         Turn::Shown => add_shown(search, lead, process, entry, at, found),
-        Turn::Bytes => add_bytes(search, lead, process, found),
+        Turn::Bytes => add_inputs(search, lead, process, found),
         Turn::Skipped => {
             add_tried(search, lead, Trial::Skip(at), found);
         }
@@ -317,7 +288,7 @@ fn add_next<'a>(
 pub(crate) fn add_branches<'a>(search: &Search<'a>, lead: &Lead<'a>, found: &mut Leads<'a>) {
     for turn in [Turn::Shown, Turn::Bytes, Turn::Skipped, Turn::Repeated] {
         for at in 0..MOST_NEXT {
-            if let Some(entry) = next_entry(&lead.progress.standing.left, at) {
+            if let Some(entry) = next_entry(&lead.standing.left, at) {
                 add_next(search, lead, entry, at, turn, found);
             }
         }

@@ -25,7 +25,6 @@ use crate::outcomes::Seen;
 use crate::places::Placing;
 use crate::standing::{Setting, Standing, after_skip, after_step, has_limiting};
 use crate::witnesses::{Move, Witness};
-use file_tree::Tree;
 use instruction_set::{Instruction, Syscall};
 use link_tree::LinkTree;
 use process::Process;
@@ -74,22 +73,11 @@ pub(crate) fn call_at(programs: &[NamedProgram], program: u8, point: u8) -> Opti
     }
 }
 
-/// A process of a machine, if it was made.
-fn process_at<'m, T: Tree>(machine: &'m Machine<'_, T>, process: u8) -> Option<&'m Process>
-    ensures { option_map (λ p. p.now) result ≡ slice_get machine.now.processes process }
-{
-    machine.processes().get(process as usize)
-}
-
 /// A process before a step, if it was made.
-fn before_step<'t, T: Tree>(
-    task: &'t Task,
-    machine: &Machine<'_, T>,
-    process: u8,
-) -> Option<Before<'t>>
-    ensures { option_map before_of result ≡ option_map (before_at (programs_of_plan task.now)) (slice_get machine.now.processes process) }
+fn before_step<'t>(task: &'t Task, processes: &[Process], process: u8) -> Option<Before<'t>>
+    ensures { option_map before_of result ≡ option_map (before_at (programs_of_plan task.now)) (slice_get processes.now process) }
 {
-    match process_at(machine, process) {
+    match processes.get(process as usize) {
         None => None,
         Some(process) => Some(Before {
             registers: process.registers,
@@ -99,10 +87,10 @@ fn before_step<'t, T: Tree>(
 }
 
 /// What is in register 1 of a process, or 0 where it wasn't made.
-fn second_in<T: Tree>(machine: &Machine<'_, T>, process: u8) -> u32
-    ensures { result ≡ second_in (slice_get machine.now.processes process) }
+fn second_in(processes: &[Process], process: u8) -> u32
+    ensures { result ≡ second_in (slice_get processes.now process) }
 {
-    match process_at(machine, process) {
+    match processes.get(process as usize) {
         None => 0,
         Some(process) => process.registers[1],
     }
@@ -127,9 +115,9 @@ fn seen_by<'t>(before: Option<Before<'t>>, acted: Option<&Acted>, second: u32) -
 }
 
 /// One step of the task's machine, with what is seen of it.
-pub(crate) fn watched_step<'t, T: Tree>(
+pub(crate) fn watched_step<'t>(
     task: &'t Task,
-    machine: &mut Machine<'_, T>,
+    machine: &mut Machine<'_, LinkTree>,
     event: Event,
 ) -> Result<Watched<'t>, Stop>
     ensures step { IfOk result (λ watched. StepsMachine (programs_of_plan machine.old.plan) (machine_world machine.old) (event_of event)
@@ -142,19 +130,19 @@ pub(crate) fn watched_step<'t, T: Tree>(
     ensures byte { OnOk result (event.input < 256) }
     ensures memory { machine.old.spent ≡ false → OnErr result (IsErrOf result Stop.Memory) }
 {
-    let before = before_step(task, machine, event.process);
+    let before = before_step(task, machine.processes(), event.process);
     let line = machine.step(event)?;
-    let second = second_in(machine, event.process);
+    let second = second_in(machine.processes(), event.process);
     let seen = seen_by(before, line.acted.as_ref(), second);
     Ok(Watched { line, seen })
 }
 
 /// Makes a move, and notes what it makes of where the run stands. Whether it may be is told.
-fn make_move<T: Tree>(
+fn make_move(
     alloc: Global,
     setting: &Setting<'_>,
     standing: &mut Standing<'_>,
-    machine: &mut Machine<'_, T>,
+    machine: &mut Machine<'_, LinkTree>,
     step: Move,
 ) -> Result<bool, Stop>
     ensures moves { machine.old.plan ≡ setting.now.task.now → IfOk result (λ is. Moves (setting_of setting.now) (machine_world machine.old)

@@ -3,7 +3,6 @@
 use crate::leads::Lead;
 use bitflags::Flags;
 use fd_table::{Description, Descriptor, Files, Message, Object};
-use file_tree::NodeId;
 use process::Process;
 use records::Entry;
 use rights::limits::{MAX_DESCRIPTORS, MAX_PROCESSES};
@@ -11,9 +10,9 @@ use rights::limits::{MAX_DESCRIPTORS, MAX_PROCESSES};
 /// How many of the entries that are left are looked at.
 const MOST_ENTRIES: usize = 32;
 
-/// A number for what a run has come to.
-#[derive(Clone, Copy, PartialEq, Eq, Hash)]
-pub(crate) struct Digest {
+/// A number for what a run has come to, as it is made.
+#[derive(Clone, Copy)]
+struct Digest {
     first: u64,
     second: u64,
 }
@@ -36,11 +35,6 @@ impl Digest {
         }
     }
 
-    /// Adds a node.
-    fn add_node(&mut self, node: NodeId) {
-        self.add(node.number() as u64);
-    }
-
     /// Adds what is on its way.
     fn add_sent(&mut self, sent: &[Message]) {
         self.add(sent.len() as u64);
@@ -54,7 +48,7 @@ impl Digest {
         self.add(u64::from(descriptor.rights.bits()) << 8 | u64::from(descriptor.fcntls.bits()));
         self.add(u64::from(what.offset) << 8 | u64::from(what.status.number()));
         match &what.object {
-            Object::Node { node, .. } => self.add_node(*node),
+            Object::Node { node, .. } => self.add(node.number() as u64),
             Object::End { end, .. } => self.add_sent(files.sent(*end)),
         }
     }
@@ -72,7 +66,7 @@ impl Digest {
     /// Adds the entries that are left.
     fn add_left(&mut self, left: &[&Entry]) {
         self.add(left.len() as u64);
-        for entry in left.iter().take(MOST_ENTRIES) {
+        for entry in &left[..left.len().min(MOST_ENTRIES)] {
             self.add(u64::from(entry.span.first));
             self.add(u64::from(entry.process));
         }
@@ -91,12 +85,12 @@ pub(crate) fn open_at(files: &Files, process: u8, number: u8) -> Option<(Descrip
 }
 
 /// The digest of a run on its way.
-pub(crate) fn digest_of(lead: &Lead<'_>) -> Digest {
+pub(crate) fn digest_of(lead: &Lead<'_>) -> u128 {
     let mut digest = Digest {
         first: 0x243F_6A88_85A3_08D3,
         second: 0x1319_8A2E_0370_7344,
     };
-    digest.add_left(&lead.progress.standing.left);
+    digest.add_left(&lead.standing.left);
     for (number, process) in lead.machine.processes().iter().enumerate() {
         if number >= MAX_PROCESSES {
             break;
@@ -104,5 +98,5 @@ pub(crate) fn digest_of(lead: &Lead<'_>) -> Digest {
         digest.add_process(process);
         digest.add_table(lead.machine.files(), number as u8);
     }
-    digest
+    u128::from(digest.first) << 64 | u128::from(digest.second)
 }

@@ -7,8 +7,8 @@ ghost use Rattle.follow.specs.Views.{placings_of};
 
 use crate::branching::{add_branches, stand_in};
 use crate::checking::shows;
-use crate::digests::{Digest, digest_of};
-use crate::leads::{Lead, Leads, Progress, Search, event_of};
+use crate::digests::digest_of;
+use crate::leads::{Lead, Leads, Search, event_of};
 use crate::numbers::ProcessPair;
 use crate::places::Placing;
 use crate::standing::{Standing, has_limiting};
@@ -83,15 +83,13 @@ struct Trail<'a> {
     way: Vec<Move>,
     /// The runs that come next behind that one.
     next: Leads<'a>,
-    met: IndexSet<Digest>,
+    met: IndexSet<u128>,
     /// How many entries were left where most were shown, the first one of them, and the points there.
     fewest: usize,
     first_left: Option<&'a Entry>,
     points: Vec<AtPoint>,
     /// The processes of a run that shows all, once one is found.
     found: Vec<ProcessPair>,
-    /// Whether memory was refused for something of that.
-    is_short: bool,
 }
 
 /// Has the first processes of the task, but for those of a program `world`, stand for those of the record, in this order.
@@ -111,7 +109,7 @@ fn first_pairs(alloc: Global, task: &Task, entries: &[Entry]) -> Result<Vec<Proc
 
 /// What a process does in one step, if it does something and there is memory for it.
 fn outcome_of_step(lead: &mut Lead<'_>, process: u8) -> Option<LineResult> {
-    match lead.machine.step(event_of(process)) {
+    match lead.machine.step(event_of(process, 0)) {
         Ok(line) => match line.acted {
             Some(acted) => Some(acted.outcome),
             None => None,
@@ -179,45 +177,30 @@ impl<'a> Trail<'a> {
             first_left: None,
             points: Vec::new(alloc),
             found: Vec::new(alloc),
-            is_short: false,
-        }
-    }
-
-    /// Begins with a run of no moves.
-    fn begin(&mut self, search: &Search<'a>, progress: Progress<'a>) {
-        match Machine::<'_, LinkTree>::start(search.alloc, search.task) {
-            Ok(machine) => {
-                self.leads.push(Lead {
-                    machine,
-                    progress,
-                    is_short: false,
-                });
-            }
-            Err(_) => self.is_short = true,
         }
     }
 
     /// Goes on with a run up to where each process makes its next call.
     fn settle(&mut self, search: &Search<'a>, lead: &mut Lead<'a>) {
         lead.settle(search);
-        self.way.truncate(lead.progress.base);
-        let is_refused = self.way.extend_from_slice(&lead.progress.moves).is_err();
-        lead.progress.moves.clear();
+        self.way.truncate(lead.base);
+        let is_refused = self.way.extend_from_slice(&lead.moves).is_err();
+        lead.moves.clear();
         if is_refused || lead.is_short {
-            self.is_short = true;
+            self.leads.is_short = true;
         }
     }
 
     /// Whether a run shows all, or such a run was met.
     fn arrive(&mut self, lead: &Lead<'a>) -> Arrival {
-        if lead.progress.standing.is_at_end() {
+        if lead.standing.is_at_end() {
             return Arrival::AtEnd;
         }
         match self.met.insert_full(digest_of(lead)) {
             Ok((_, true)) => Arrival::New,
             Ok((_, false)) => Arrival::Met,
             Err(_) => {
-                self.is_short = true;
+                self.leads.is_short = true;
                 Arrival::Met
             }
         }
@@ -225,7 +208,7 @@ impl<'a> Trail<'a> {
 
     /// Notes how far a run has come, if none has come further.
     fn reach(&mut self, lead: &Lead<'a>) {
-        let left = &lead.progress.standing.left;
+        let left = &lead.standing.left;
         if left.len() < self.fewest || self.first_left.is_none() {
             self.points.clear();
             self.fewest = left.len();
@@ -235,12 +218,12 @@ impl<'a> Trail<'a> {
 
     /// Which process of a run shows the first entry that is left, if the run has come as far as any.
     fn awaited(&self, lead: &Lead<'a>) -> Option<u8> {
-        let left = &lead.progress.standing.left;
+        let left = &lead.standing.left;
         if left.len() > self.fewest || self.points.len() >= MOST_POINTS {
             return None;
         }
         match left.first() {
-            Some(entry) => stand_in(&lead.progress.pairs, entry.process),
+            Some(entry) => stand_in(&lead.pairs, entry.process),
             None => None,
         }
     }
@@ -248,7 +231,7 @@ impl<'a> Trail<'a> {
     /// Notes a point, if it isn't there.
     fn add_point(&mut self, point: AtPoint) {
         if !self.points.contains(&point) && self.points.push(point).is_err() {
-            self.is_short = true;
+            self.leads.is_short = true;
         }
     }
 
@@ -280,7 +263,7 @@ impl<'a> Trail<'a> {
             self.leads.push(lead);
         }
         if let Some(lead) = self.leads.runs.last_mut() {
-            lead.progress.base = self.way.len();
+            lead.base = self.way.len();
         }
     }
 
@@ -300,7 +283,7 @@ impl<'a> Trail<'a> {
         self.settle(search, lead);
         match self.arrive(lead) {
             Arrival::AtEnd => {
-                mem::swap(&mut self.found, &mut lead.progress.pairs);
+                mem::swap(&mut self.found, &mut lead.pairs);
                 return true;
             }
             Arrival::Met => {}
@@ -312,7 +295,7 @@ impl<'a> Trail<'a> {
 
     /// Whether memory was refused for something.
     fn is_short(&self) -> bool {
-        self.is_short || self.leads.is_short || self.next.is_short
+        self.leads.is_short || self.next.is_short
     }
 
     /// Takes the last run and goes on with it. Whether it shows all is told.
@@ -370,21 +353,23 @@ fn place_of(entries: &[Entry], sought: Option<&Entry>) -> usize {
     0
 }
 
-/// How far a run has come that has no moves, unless some process of it stands for two, or two for one.
-fn first_progress<'a>(
-    search: &Search<'a>,
-    entries: &'a [Entry],
-) -> Result<Option<Progress<'a>>, Memory> {
+/// The run that has no moves, unless some process of it stands for two, or two for one.
+fn first_lead<'a>(search: &Search<'a>, entries: &'a [Entry]) -> Result<Option<Lead<'a>>, Memory> {
     let pairs = first_pairs(search.alloc, search.task, entries)?;
     let Some(standing) = Standing::first(search.alloc, search.task, &pairs, entries)? else {
         return Ok(None);
     };
-    Ok(Some(Progress {
-        standing,
-        pairs,
-        moves: Vec::new(search.alloc),
-        base: 0,
-    }))
+    match Machine::<'_, LinkTree>::start(search.alloc, search.task) {
+        Ok(machine) => Ok(Some(Lead {
+            machine,
+            standing,
+            pairs,
+            moves: Vec::new(search.alloc),
+            base: 0,
+            is_short: false,
+        })),
+        Err(_) => Err(Memory),
+    }
 }
 
 /// Searches from the beginning, over at most so many states: the run that shows all, if one is found.
@@ -394,8 +379,8 @@ fn sought<'a>(
     entries: &'a [Entry],
     bound: usize,
 ) -> Result<Option<Witness>, Memory> {
-    if let Some(progress) = first_progress(search, entries)? {
-        trail.begin(search, progress);
+    if let Some(lead) = first_lead(search, entries)? {
+        trail.leads.push(lead);
     }
     let is_found = trail.search(search, bound);
     if trail.is_short() {

@@ -33,21 +33,15 @@ pub(crate) struct Search<'a> {
     pub limited: bool,
 }
 
-/// How far a run has come, and how.
+/// A run on its way: how far it has come, and how. Where memory was refused for a step of it, that is noted, and the step doesn't count.
 #[derive(Drop)]
-pub(crate) struct Progress<'a> {
+pub(crate) struct Lead<'a> {
+    pub machine: Machine<'a, LinkTree>,
     pub standing: Standing<'a>,
     pub pairs: Vec<ProcessPair>,
     /// The last moves. So many of the way stand before them.
     pub moves: Vec<Move>,
     pub base: usize,
-}
-
-/// A run on its way. Where memory was refused for a step of it, that is noted, and the step doesn't count.
-#[derive(Drop)]
-pub(crate) struct Lead<'a> {
-    pub machine: Machine<'a, LinkTree>,
-    pub progress: Progress<'a>,
     pub is_short: bool,
 }
 
@@ -65,11 +59,11 @@ pub(crate) struct Leads<'a> {
     pub is_short: bool,
 }
 
-/// An event without a byte.
-pub(crate) fn event_of(process: u8) -> Event {
+/// The event of a process that reads this byte, if it reads one.
+pub(crate) fn event_of(process: u8, input: u8) -> Event {
     Event {
         process,
-        input: 0,
+        input,
         refuse: false,
     }
 }
@@ -86,67 +80,6 @@ impl<'a> Search<'a> {
             pairs,
             limited: self.limited,
         }
-    }
-}
-
-impl<'a> Progress<'a> {
-    /// The same once more.
-    fn copy(&self, alloc: Global) -> Result<Progress<'a>, Memory> {
-        let pairs = Vec::from_slice(alloc, &self.pairs)?;
-        let moves = Vec::from_slice(alloc, &self.moves)?;
-        Ok(Progress {
-            standing: self.standing.copy(alloc)?,
-            pairs,
-            moves,
-            base: self.base,
-        })
-    }
-
-    /// Has a process of the task stand for one of the record, if none does.
-    fn pair(&mut self, real: u32, model: u8) -> Result<(), Memory> {
-        if model_of(&self.pairs, real).is_none() {
-            self.pairs.push(ProcessPair { real, model })?;
-        }
-        Ok(())
-    }
-
-    /// Notes a step that was seen, which may show the entry of a place. Whether it may be is told.
-    fn step(
-        &mut self,
-        search: &Search<'a>,
-        event: Event,
-        seen: &Seen<'_>,
-        shows: Option<usize>,
-    ) -> Result<bool, Memory> {
-        let setting = search.setting(&self.pairs);
-        let process = usize::from(event.process);
-        let may = after_step(
-            search.alloc,
-            &setting,
-            &mut self.standing,
-            process,
-            Some(seen),
-            shows,
-        )?;
-        if may {
-            self.moves.push(Move::Step { event, shows })?;
-        }
-        Ok(may)
-    }
-
-    /// Skips the entry of a place, if it may be.
-    fn skip(
-        &mut self,
-        search: &Search<'a>,
-        processes: &[Process],
-        at: usize,
-    ) -> Result<bool, Memory> {
-        let setting = search.setting(&self.pairs);
-        let may = after_skip(search.alloc, &setting, &mut self.standing, processes, at)?;
-        if may {
-            self.moves.push(Move::Skip { entry: at })?;
-        }
-        Ok(may)
     }
 }
 
@@ -223,19 +156,13 @@ impl<'a> Leads<'a> {
 
     /// Adds a run that goes on from where another one is. Whether there was memory for it is told.
     pub(crate) fn add_branch(&mut self, search: &Search<'a>, lead: &Lead<'a>) -> bool {
-        let Ok(progress) = lead.progress.copy(search.alloc) else {
-            self.is_short = true;
-            return false;
-        };
-        let Ok(machine) = lead.machine.copy() else {
-            self.is_short = true;
-            return false;
-        };
-        self.push(Lead {
-            machine,
-            progress,
-            is_short: false,
-        })
+        match lead.copy(search.alloc) {
+            Ok(copy) => self.push(copy),
+            Err(_) => {
+                self.is_short = true;
+                false
+            }
+        }
     }
 
     /// Tries something in the last run. Whether it may be is told.
@@ -264,6 +191,21 @@ impl<'a> Leads<'a> {
 }
 
 impl<'a> Lead<'a> {
+    /// The same once more.
+    fn copy(&self, alloc: Global) -> Result<Lead<'a>, Memory> {
+        let pairs = Vec::from_slice(alloc, &self.pairs)?;
+        let moves = Vec::from_slice(alloc, &self.moves)?;
+        let standing = self.standing.copy(alloc)?;
+        Ok(Lead {
+            machine: self.machine.copy()?,
+            standing,
+            pairs,
+            moves,
+            base: self.base,
+            is_short: false,
+        })
+    }
+
     /// A process, if it was made.
     pub(crate) fn process(&self, number: u8) -> Option<&Process> {
         self.machine.processes().get(number as usize)
@@ -292,15 +234,37 @@ impl<'a> Lead<'a> {
         }
     }
 
-    /// Whether something may be, if there was memory to tell.
-    fn told(&mut self, may: Result<bool, Memory>) -> bool {
+    /// Notes a move that may be made, if there was memory to tell. Whether it may be is told.
+    fn note(&mut self, may: Result<bool, Memory>, step: Move) -> bool {
         match may {
-            Ok(may) => may,
-            Err(_) => {
+            Ok(true) if self.moves.push(step).is_ok() => true,
+            Ok(false) => false,
+            _ => {
                 self.is_short = true;
                 false
             }
         }
+    }
+
+    /// Notes a step that was seen, which may show the entry of a place. Whether it may be is told.
+    fn may_step(
+        &mut self,
+        search: &Search<'a>,
+        event: Event,
+        seen: &Seen<'_>,
+        shows: Option<usize>,
+    ) -> bool {
+        let setting = search.setting(&self.pairs);
+        let process = usize::from(event.process);
+        let may = after_step(
+            search.alloc,
+            &setting,
+            &mut self.standing,
+            process,
+            Some(seen),
+            shows,
+        );
+        self.note(may, Move::Step { event, shows })
     }
 
     /// One step. It is to show the entry of a place, if it is the last one of its call. What it came to is told, if it may be.
@@ -315,8 +279,7 @@ impl<'a> Lead<'a> {
             LineResult::Walking | LineResult::Waiting => None,
             _ => shows,
         };
-        let may = self.progress.step(search, event, &seen, shows);
-        if self.told(may) {
+        if self.may_step(search, event, &seen, shows) {
             Some(seen.outcome)
         } else {
             None
@@ -337,8 +300,10 @@ impl<'a> Lead<'a> {
 
     /// Skips the entry of a place, if it may be.
     fn skip(&mut self, search: &Search<'a>, at: usize) -> bool {
-        let may = self.progress.skip(search, self.machine.processes(), at);
-        self.told(may)
+        let setting = search.setting(&self.pairs);
+        let processes = self.machine.processes();
+        let may = after_skip(search.alloc, &setting, &mut self.standing, processes, at);
+        self.note(may, Move::Skip { entry: at })
     }
 
     /// Takes a step of the world, to where its call has come back, and what the process does up to its next call. Whether something comes
@@ -357,12 +322,13 @@ impl<'a> Lead<'a> {
         false
     }
 
-    /// Notes that the next process that is made stands for this one of the record.
+    /// Notes that the next process that is made stands for this one of the record, if none does.
     fn pair_next(&mut self, child: u32) {
         let Ok(model) = u8::try_from(self.machine.processes().len()) else {
             return;
         };
-        if self.progress.pair(child, model).is_err() {
+        let is_new = model_of(&self.pairs, child).is_none();
+        if is_new && self.pairs.push(ProcessPair { real: child, model }).is_err() {
             self.is_short = true;
         }
     }
@@ -386,7 +352,7 @@ impl<'a> Lead<'a> {
         match trial {
             Trial::Step { event, shows } => self.step(search, event, shows).is_some(),
             Trial::Call { event, child, at } => self.show_call(search, event, child, at),
-            Trial::Silent(process) => self.run_call(search, event_of(process), None),
+            Trial::Silent(process) => self.run_call(search, event_of(process, 0), None),
             Trial::Skip(at) => self.skip(search, at),
             Trial::World(event) => self.move_world(search, event),
         }
@@ -407,15 +373,15 @@ impl<'a> Lead<'a> {
             if !self.is_plain(search, process) {
                 break;
             }
-            self.step(search, event_of(process), None);
+            self.step(search, event_of(process, 0), None);
         }
     }
 
     /// Runs all processes that stand for the record's on so.
     pub(crate) fn settle(&mut self, search: &Search<'a>) {
-        for at in 0..self.progress.pairs.len() {
-            if at < self.progress.pairs.len() {
-                let process = self.progress.pairs[at].model;
+        for at in 0..self.pairs.len() {
+            if at < self.pairs.len() {
+                let process = self.pairs[at].model;
                 self.run_plain(search, process);
             }
         }

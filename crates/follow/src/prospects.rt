@@ -26,19 +26,19 @@ fn may_pass(search: &Search<'_>, lead: &Lead<'_>, process: u8, call: &Syscall) -
         return false;
     };
     let transfer = transfer_in(&state.registers, Some(call), LineResult::Value(0));
-    let history = &lead.progress.standing.history;
+    let history = &lead.standing.history;
     !search.limited && is_of_mode(call.call()) || is_repeat(history, usize::from(process), transfer)
 }
 
 /// Whether a call of the record may be skipped, as far as what it was given goes.
 fn may_be_skipped(search: &Search<'_>, lead: &Lead<'_>, process: u8, made: &MadeCall) -> bool {
-    let setting = search.setting(&lead.progress.pairs);
-    let namings = &lead.progress.standing.namings;
+    let setting = search.setting(&lead.pairs);
+    let namings = &lead.standing.namings;
     may_skip(search.alloc, &setting, namings, usize::from(process), made).unwrap_or(true)
 }
 
 /// What may come of the instruction at which a process stands.
-#[derive(Clone, Copy, PartialEq, Eq)]
+#[derive(Clone, Copy)]
 enum Prospect {
     /// It may show the next call of the process.
     Shows,
@@ -81,10 +81,10 @@ fn stands_for(pairs: &[ProcessPair], process: u8) -> Option<u32> {
 
 /// What may come of the instruction at which a process stands.
 fn prospect_of(search: &Search<'_>, lead: &Lead<'_>, process: u8) -> Prospect {
-    let Some(real) = stands_for(&lead.progress.pairs, process) else {
+    let Some(real) = stands_for(&lead.pairs, process) else {
         return Prospect::Shows;
     };
-    match next_of(&lead.progress.standing.left, real) {
+    match next_of(&lead.standing.left, real) {
         Some(entry) => prospect_before(search, lead, process, entry),
         None => Prospect::Shows,
     }
@@ -105,7 +105,7 @@ impl<'a> Leads<'a> {
     /// Whether a process is stuck in all runs from a place on.
     fn are_all_stuck(&mut self, search: &Search<'a>, process: u8, first: usize) -> bool {
         for at in first..self.runs.len() {
-            if self.prospect_at(search, process, at) != Prospect::Stuck {
+            if !matches!(self.prospect_at(search, process, at), Prospect::Stuck) {
                 return false;
             }
         }

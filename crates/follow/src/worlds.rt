@@ -1,11 +1,11 @@
 //! What the processes of the task do that the record doesn't have.
 
-use crate::branching::{inputs, reading};
-use crate::digests::{Digest, digest_of};
+use crate::branching::inputs;
+use crate::digests::digest_of;
 use crate::leads::{Lead, Leads, Search, Trial, add_tried, event_of};
 use crate::numbers::is_recorded;
 use indexmap::IndexSet;
-use instruction_set::{Instruction, Register};
+use instruction_set::Instruction;
 use rights::limits::MAX_PROCESSES;
 use syscalls::Event;
 
@@ -19,7 +19,7 @@ const MOST_FOUND: usize = 4;
 pub(crate) fn is_of_world(lead: &Lead<'_>, number: u8) -> bool {
     match lead.process(number) {
         None => false,
-        Some(process) => process.alive && !is_recorded(&lead.progress.pairs, usize::from(number)),
+        Some(process) => process.alive && !is_recorded(&lead.pairs, usize::from(number)),
     }
 }
 
@@ -33,27 +33,16 @@ pub(crate) fn has_world(lead: &Lead<'_>) -> bool {
     false
 }
 
-/// Adds the runs in which a process of the world reads a byte.
-fn add_readings<'a>(
-    search: &Search<'a>,
-    lead: &Lead<'a>,
-    process: u8,
-    register: Register,
-    next: &mut Leads<'a>,
-) {
-    let bytes = inputs(search, lead, process, register);
+/// Adds the runs in which a process of the world moves: one for each byte that is tried, if it reads one.
+fn add_moves<'a>(search: &Search<'a>, lead: &Lead<'a>, process: u8, next: &mut Leads<'a>) {
+    let Some(Instruction::In { register }) = lead.instruction(search.task, process) else {
+        add_tried(search, lead, Trial::World(event_of(process, 0)), next);
+        return;
+    };
+    let bytes = inputs(search, lead, process, *register);
     next.note(&bytes);
     for input in bytes.as_bytes() {
-        add_tried(search, lead, Trial::World(reading(process, *input)), next);
-    }
-}
-
-/// Adds the runs in which a process of the world moves.
-fn add_moves<'a>(search: &Search<'a>, lead: &Lead<'a>, process: u8, next: &mut Leads<'a>) {
-    if let Some(Instruction::In { register }) = lead.instruction(search.task, process) {
-        add_readings(search, lead, process, *register, next);
-    } else {
-        add_tried(search, lead, Trial::World(event_of(process)), next);
+        add_tried(search, lead, Trial::World(event_of(process, *input)), next);
     }
 }
 
@@ -92,23 +81,14 @@ impl Awaited {
 /// The search for moves of the world that help.
 #[derive(Drop)]
 struct Moving<'a> {
-    met: IndexSet<Digest>,
+    met: IndexSet<u128>,
     runs: Leads<'a>,
     /// The runs that come next, the last of them first.
     next: Leads<'a>,
     helped: usize,
-    /// Whether memory was refused for what was met.
-    is_short: bool,
 }
 
 impl<'a> Moving<'a> {
-    /// Takes the next run.
-    fn take_next(&mut self) {
-        if let Some(run) = self.next.runs.pop() {
-            self.runs.push(run);
-        }
-    }
-
     /// Notes that the last run is met. Whether it wasn't before is told.
     fn meet(&mut self) -> bool {
         let Some(run) = self.runs.runs.last() else {
@@ -117,7 +97,7 @@ impl<'a> Moving<'a> {
         match self.met.insert_full(digest_of(run)) {
             Ok((_, is_new)) => is_new,
             Err(_) => {
-                self.is_short = true;
+                self.runs.is_short = true;
                 false
             }
         }
@@ -128,7 +108,7 @@ impl<'a> Moving<'a> {
         let Some(run) = self.runs.runs.last() else {
             return;
         };
-        let trial = awaited.trial(event_of(awaited.process));
+        let trial = awaited.trial(event_of(awaited.process, 0));
         if add_tried(search, run, trial, found) {
             self.helped = self.helped.wrapping_add(1);
         }
@@ -156,7 +136,9 @@ impl<'a> Moving<'a> {
         };
         add_moved(search, run, &mut self.next);
         for _ in 0..self.next.runs.len() {
-            self.take_next();
+            if let Some(run) = self.next.runs.pop() {
+                self.runs.push(run);
+            }
             self.go_to_last(search, awaited, found);
         }
         true
@@ -169,11 +151,6 @@ impl<'a> Moving<'a> {
                 break;
             }
         }
-    }
-
-    /// Whether memory was refused.
-    fn is_short(&self) -> bool {
-        self.is_short || self.runs.is_short || self.next.is_short
     }
 }
 
@@ -189,11 +166,10 @@ pub(crate) fn add_by_world<'a>(
         runs: Leads::new(search.alloc),
         next: Leads::new(search.alloc),
         helped: 0,
-        is_short: false,
     };
     moving.runs.add_branch(search, lead);
     moving.search(search, awaited, found);
-    if moving.is_short() {
+    if moving.runs.is_short || moving.next.is_short {
         found.is_short = true;
     }
 }

@@ -9,7 +9,7 @@ use Rattle.page.specs.declared.board.Frame.{Frame}
 use Rattle.page.specs.declared.frames.TextLine.{TextLine}
 use Rattle.page.specs.Layout.{FitsIn}
 use Rattle.page.specs.FrameViews.{FramesApart, LettersFit, LieApart, area_of, letters_of}
-use Rattle.page.proofs.Pushes.{pairs-push}
+use Rattle.page.proofs.Pushes.{all-push, pairs-push}
 
 -- one stands above the other
 abbrev pub Above : Frame → Frame → Type 0
@@ -19,6 +19,16 @@ Above f g = f.top + f.block.height ≤ g.top
 pub stacked-push : (before after : List Frame) (f : Frame) (start : ℕ) (ok : Bool) → after ≡ cond ok (before ++ f ∷ []) before → AllPairs Above before
     → All (λ g. (start ≤ g.top) × (g.top + g.block.height ≤ f.top)) before → AllPairs Above after
 stacked-push before after f start ok is stacked within = pairs-push Above before after f ok is stacked (λ k d small. (within k d small).1)
+
+-- Then each lies between the start and the new one's end.
+pub within-push : (before after : List Frame) (f : Frame) (start : ℕ) (ok : Bool) → after ≡ cond ok (before ++ f ∷ []) before
+    → All (λ g. (start ≤ g.top) × (g.top + g.block.height ≤ f.top)) before → start ≤ f.top → All (λ g. (start ≤ g.top) × (g.top + g.block.height ≤ f.top + f.block.height)) after
+within-push before after f start ok is within begun =
+    all-push (λ (g : Frame). (start ≤ g.top) × (g.top + g.block.height ≤ f.top + f.block.height)) before after f ok is
+    (λ k d small. let one = within k d small in (one.0, lower (slice_index_or before k d).top (slice_index_or before k d).block.height f.top f.block.height one.1)) (begun, omega arith)
+  where
+    lower : (top height below more : ℕ) → top + height ≤ below → top + height ≤ below + more
+    lower top height below more h = omega (arith, h)
 
 -- The frames of a board lie apart, and their letters inside them.
 one-board : (b : Board) → AllPairs FramesApart b.frames.items

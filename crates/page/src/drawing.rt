@@ -2,66 +2,76 @@
 
 use crate::board::{Frame, FrameKind, NARROW, Size, WIDE};
 use crate::frames::TextLine;
-use crate::html::{Html, Put, Shown};
+use crate::html::Html;
+use crate::html::Part::{Markup, Number, Shown};
 use crate::lanes::ClassLane;
 use crate::layouts::{Layout, Plan, lay_out, plan_of, wires_in};
 use crate::pictures::{HalfKind, Picture, Row, Target};
-use crate::put;
 use crate::sentences::{Tone, add_sentences};
-use crate::wires::{Lanes, Point, Wire};
+use crate::wires::{Lanes, Wire};
 use crate::wiring::class_of;
 use std::alloc::AllocError;
 
 /// The radius of a corner.
 const RADIUS: u32 = 6;
 
-/// A way along or down, by the radius of a corner; one that doesn't grow goes to the left or up.
-#[derive(Clone, Copy)]
-struct Bend {
-    radius: u32,
-    grows: bool,
-}
-
-impl Bend {
-    /// Where it begins, if it ends at a number.
-    fn before(self, end: u32) -> u32 {
-        if self.grows {
-            end.saturating_sub(self.radius)
-        } else {
-            end.saturating_add(self.radius)
-        }
+/// Where a way of a length begins, if it ends at a number and grows or not.
+fn before(end: u32, length: u32, grows: bool) -> u32 {
+    if grows {
+        end.saturating_sub(length)
+    } else {
+        end.saturating_add(length)
     }
 }
 
-/// Its radius, with a sign if it doesn't grow.
-impl Put for Bend {
-    fn put(self, html: &mut Html) {
-        put!(html; if self.grows { "" } else { "-" }, self.radius)
-    }
+/// The sign of a way that grows or not.
+fn sign(grows: bool) -> &'static str {
+    if grows { "" } else { "-" }
 }
 
 /// Adds a wire: along, a corner, up or down, a corner, along.
 fn add_wire(html: &mut Html, wire: &Wire) {
     let (from, to, lane) = (wire.from, wire.to, wire.lane);
-    put!(html; "<path class=\"w ", wire.tone.line_class(), "\" d=\"M", from);
+    let class = Markup(wire.tone.line_class());
+    let (x, y, end) = (Number(from.x), Number(from.y), Number(to.x));
     if from.y == to.y {
-        return put!(html; "H", lane, "H", to.x, "\"/>\n");
+        return html.fill(
+            "<path class=\"w @\" d=\"M@ @H@H@\"/>\n",
+            &[class, x, y, Number(lane), end],
+        );
     }
-    let radius = (from.y.abs_diff(to.y) / 2).min(RADIUS);
-    let leaves = Bend {
-        radius,
-        grows: from.x < lane,
-    };
-    let falls = Bend {
-        radius,
-        grows: from.y < to.y,
-    };
-    let arrives = Bend {
-        radius,
-        grows: lane < to.x,
-    };
-    put!(html; "H", leaves.before(lane), "q", leaves, " 0 ", leaves, " ", falls);
-    put!(html; "V", falls.before(to.y), "q0 ", falls, " ", arrives, " ", falls, "H", to.x, "\"/>\n")
+    let length = (from.y.abs_diff(to.y) / 2).min(RADIUS);
+    let (leaves, falls, arrives) = (from.x < lane, from.y < to.y, lane < to.x);
+    let (corner, below) = (before(lane, length, leaves), before(to.y, length, falls));
+    let (along, down, on) = (
+        Markup(sign(leaves)),
+        Markup(sign(falls)),
+        Markup(sign(arrives)),
+    );
+    let radius = Number(length);
+    html.fill(
+        "<path class=\"w @\" d=\"M@ @H@q@@ 0 @@ @@V@q0 @@ @@ @@H@\"/>\n",
+        &[
+            class,
+            x,
+            y,
+            Number(corner),
+            along,
+            radius,
+            along,
+            radius,
+            down,
+            radius,
+            Number(below),
+            down,
+            radius,
+            on,
+            radius,
+            down,
+            radius,
+            end,
+        ],
+    )
 }
 
 /// The classes of a head's letters.
@@ -77,37 +87,55 @@ fn head_class(kind: FrameKind) -> &'static str {
 /// Adds the letters of a line's head or tail, if it has some.
 fn add_letters(html: &mut Html, class: &'static str, tone: Tone, letters: &[u8]) {
     if !letters.is_empty() {
-        put!(html; "<tspan class=\"", class, tone.class(), "\">", Shown(letters), "</tspan>")
+        let parts = [Markup(class), Markup(tone.class()), Shown(letters)];
+        html.fill("<tspan class=\"@@\">@</tspan>", &parts)
     }
 }
 
 /// Adds a line of letters.
 fn add_line(html: &mut Html, frame: &Frame, line: &TextLine) {
     let (head, tail) = line.letters.split_at(line.head.min(line.letters.len()));
-    put!(html; "<text x=\"", frame.left.saturating_add(frame.indent), "\" y=\"", frame.top.saturating_add(line.baseline), "\">");
+    let (x, y) = (
+        frame.left.saturating_add(frame.indent),
+        frame.top.saturating_add(line.baseline),
+    );
+    html.fill("<text x=\"@\" y=\"@\">", &[Number(x), Number(y)]);
     add_letters(html, head_class(frame.kind), line.head_tone, head);
     add_letters(html, "", line.tail_tone, tail);
-    put!(html; "</text>\n")
+    html.markup("</text>\n")
 }
 
 /// Adds an arrow down, from the box outside the mode to the one inside.
 fn add_arrow(html: &mut Html, frame: &Frame) {
-    let begin = Point {
-        x: frame.left.saturating_add(16),
-        y: frame.top,
-    };
-    let head = Point {
-        x: begin.x.saturating_sub(5),
-        y: frame.top.saturating_add(20),
-    };
-    put!(html; "<path class=\"w mode\" d=\"M", begin, "v23\"/><path class=\"d mode\" d=\"M", head, "h10l-5 9z\"/>\n")
+    let x = frame.left.saturating_add(16);
+    let (head, low) = (x.saturating_sub(5), frame.top.saturating_add(20));
+    html.fill(
+        "<path class=\"w mode\" d=\"M@ @v23\"/><path class=\"d mode\" d=\"M@ @h10l-5 9z\"/>\n",
+        &[Number(x), Number(frame.top), Number(head), Number(low)],
+    )
 }
 
 /// Adds a rectangle, so much inside a frame.
 fn add_rectangle(html: &mut Html, frame: &Frame, class: &'static str, inset: u32) {
     let twice = inset.saturating_mul(2);
-    put!(html; "<rect class=\"", class, "\" x=\"", frame.left.saturating_add(inset), "\" y=\"", frame.top.saturating_add(inset), "\" width=\"");
-    put!(html; frame.width.saturating_sub(twice), "\" height=\"", frame.block.height.saturating_sub(twice), "\" rx=\"3\"/>\n")
+    let (left, top) = (
+        frame.left.saturating_add(inset),
+        frame.top.saturating_add(inset),
+    );
+    let (width, height) = (
+        frame.width.saturating_sub(twice),
+        frame.block.height.saturating_sub(twice),
+    );
+    html.fill(
+        "<rect class=\"@\" x=\"@\" y=\"@\" width=\"@\" height=\"@\" rx=\"3\"/>\n",
+        &[
+            Markup(class),
+            Number(left),
+            Number(top),
+            Number(width),
+            Number(height),
+        ],
+    )
 }
 
 /// Adds what is drawn around the letters of a frame.
@@ -150,30 +178,42 @@ fn is_alone(classes: &[ClassLane], class: usize) -> bool {
 fn add_port(html: &mut Html, plan: &Plan<'_>, lanes: &Lanes, row: &Row, y: u32) {
     match row.target {
         Target::Panel(_) => {
-            put!(html; "<circle class=\"d ", row.wire.line_class(), "\" cx=\"", lanes.right, "\" cy=\"", y, "\" r=\"3\"/>\n")
+            let parts = [
+                Markup(row.wire.line_class()),
+                Number(lanes.right),
+                Number(y),
+            ];
+            html.fill(
+                "<circle class=\"d @\" cx=\"@\" cy=\"@\" r=\"3\"/>\n",
+                &parts,
+            )
         }
         Target::Pair(class) => {
             if is_alone(&plan.classes.items, class) {
-                put!(html; "<path class=\"w thin\" d=\"M", lanes.left, " ", y, "h-7m0 -4v8\"/>\n")
+                let parts = [Number(lanes.left), Number(y)];
+                html.fill("<path class=\"w thin\" d=\"M@ @h-7m0 -4v8\"/>\n", &parts)
             }
         }
         Target::Nowhere => {}
     }
     if row.takes {
-        put!(html; "<path class=\"d mode\" d=\"M", lanes.left.saturating_sub(8), " ", y.saturating_sub(5), "l8 5l-8 5z\"/>\n")
+        let parts = [
+            Number(lanes.left.saturating_sub(8)),
+            Number(y.saturating_sub(5)),
+        ];
+        html.fill("<path class=\"d mode\" d=\"M@ @l8 5l-8 5z\"/>\n", &parts)
     }
 }
 
 /// Adds a picture that is laid out, with its wires.
 fn add_layout(html: &mut Html, plan: &Plan<'_>, layout: &Layout, wires: &[Wire]) {
-    let width = layout.width;
-    let height = layout
-        .boxes
-        .below
-        .max(layout.panels.below)
-        .saturating_add(2);
-    put!(html; "<svg width=\"", width, "\" height=\"", height, "\" viewBox=\"0 0 ", width, " ", height);
-    put!(html; "\" role=\"img\" aria-label=\"Programs, what they may hold in capability mode, and what passes between them\" aria-describedby=\"words\">\n");
+    let below = layout.boxes.below.max(layout.panels.below);
+    let (width, height) = (Number(layout.width), Number(below.saturating_add(2)));
+    html.fill(
+        "<svg width=\"@\" height=\"@\" viewBox=\"0 0 @ @\" role=\"img\" \
+        aria-label=\"Programs, what they may hold in capability mode, and what passes between them\" aria-describedby=\"words\">\n",
+        &[width, height, width, height],
+    );
     for wire in wires {
         add_wire(html, wire);
     }
@@ -184,7 +224,7 @@ fn add_layout(html: &mut Html, plan: &Plan<'_>, layout: &Layout, wires: &[Wire])
             add_port(html, plan, &layout.lanes, row, *y);
         }
     }
-    put!(html; "</svg>")
+    html.markup("</svg>")
 }
 
 /// Lays a picture out in a size, and adds it.
@@ -202,12 +242,15 @@ fn add_drawn(
 
 /// Adds a picture in a size.
 fn add_size(html: &mut Html, picture: &Picture, plan: &Plan<'_>, size: &Size) {
-    put!(html; if size.is_wide { "<div class=\"x wide\"" } else { "<div class=\"x narrow\"" });
-    put!(html; " tabindex=\"0\" role=\"group\" aria-label=\"The picture; it scrolls sideways\">");
+    let class = if size.is_wide { "wide" } else { "narrow" };
+    html.fill(
+        "<div class=\"x @\" tabindex=\"0\" role=\"group\" aria-label=\"The picture; it scrolls sideways\">",
+        &[Markup(class)],
+    );
     if add_drawn(html, picture, plan, size).is_err() {
         html.fail()
     }
-    put!(html; "</div>\n")
+    html.markup("</div>\n")
 }
 
 /// Adds a picture, wide and narrow.
@@ -220,12 +263,14 @@ fn add_sizes(html: &mut Html, picture: &Picture) -> Result<(), AllocError> {
 
 /// Adds who reaches what: the picture, wide and narrow, and the same in words.
 pub(crate) fn add_picture(html: &mut Html, picture: &Picture) {
-    put!(html; "<section id=\"picture\"><h2>Who reaches what</h2><p class=\"h\">Boxes are programs, outside capability mode and in it, with what each may hold there at most. \
-        Grey panels are the file tree by grants; lines on the left are pairs of sockets, blue where descriptors pass.</p>\n");
+    html.markup(
+        "<section id=\"picture\"><h2>Who reaches what</h2><p class=\"h\">Boxes are programs, outside capability mode and in it, with what each may hold there at most. \
+        Grey panels are the file tree by grants; lines on the left are pairs of sockets, blue where descriptors pass.</p>\n",
+    );
     if add_sizes(html, picture).is_err() {
         html.fail()
     }
-    put!(html; "<details><summary>The picture in words</summary><ul id=\"words\">");
+    html.markup("<details><summary>The picture in words</summary><ul id=\"words\">");
     add_sentences(html, "<li>", &picture.words, "</li>\n");
-    put!(html; "</ul></details></section>\n")
+    html.markup("</ul></details></section>\n")
 }

@@ -1,8 +1,8 @@
 //! The head of a page: what was asked, the verdict, what to do with it, and what it doesn't say.
 
-use crate::html::{Html, Shown};
-use crate::put;
-use crate::sentences::{Sentence, add_sentences};
+use crate::html::Html;
+use crate::html::Part::{Markup, Shown};
+use crate::sentences::{add_sentence, add_sentences};
 use crate::sheets::{Column, Header, Item, Sheet, Verdict};
 use crate::styles::add_style;
 
@@ -19,66 +19,90 @@ impl Verdict {
 
 /// Adds what no reader sees: the title, the style, and that nothing is fetched and nothing runs.
 pub(crate) fn add_head(html: &mut Html, header: &Header) {
-    put!(html; "<!DOCTYPE html>\n<html lang=\"en\"><head><meta charset=\"utf-8\"><meta name=\"viewport\" content=\"width=device-width,initial-scale=1\">\
-        <meta http-equiv=\"Content-Security-Policy\" content=\"default-src 'none'; style-src 'unsafe-inline'\"><title>Capcheck: ");
-    put!(html; Shown(&header.title), ", ", Shown(&header.task), "</title>\n<style>\n");
+    let parts = [Shown(&header.title), Shown(&header.task)];
+    html.fill(
+        "<!DOCTYPE html>\n<html lang=\"en\"><head><meta charset=\"utf-8\"><meta name=\"viewport\" content=\"width=device-width,initial-scale=1\">\
+        <meta http-equiv=\"Content-Security-Policy\" content=\"default-src 'none'; style-src 'unsafe-inline'\"><title>Capcheck: @, @</title>\n<style>\n",
+        &parts,
+    );
     add_style(html);
-    put!(html; "</style></head><body>\n")
+    html.markup("</style></head><body>\n")
 }
 
 /// Adds links to the parts that the page has.
 fn add_links(html: &mut Html, sheet: &Sheet) {
-    put!(html; "<nav aria-label=\"Parts\">");
-    if sheet.run.is_some() {
-        put!(html; "<a href=\"#run\">Run</a>")
-    }
-    put!(html; "<a href=\"#picture\">Picture</a>");
-    if sheet.rights.is_some() {
-        put!(html; "<a href=\"#rights\">Rights</a>")
-    }
-    put!(html; "<a href=\"#programs\">Programs</a>");
-    if !sheet.rules.is_empty() {
-        put!(html; "<a href=\"#rules\">Rules</a>")
-    }
-    put!(html; "</nav>")
+    let parts = [
+        Markup(if sheet.run.is_some() {
+            "<a href=\"#run\">Run</a>"
+        } else {
+            ""
+        }),
+        Markup(if sheet.rights.is_some() {
+            "<a href=\"#rights\">Rights</a>"
+        } else {
+            ""
+        }),
+        Markup(if sheet.rules.is_empty() {
+            ""
+        } else {
+            "<a href=\"#rules\">Rules</a>"
+        }),
+    ];
+    html.fill(
+        "<nav aria-label=\"Parts\">@<a href=\"#picture\">Picture</a>@<a href=\"#programs\">Programs</a>@</nav>",
+        &parts,
+    )
 }
 
 /// Adds an item, with the places below it.
 fn add_item(html: &mut Html, item: &Item) {
-    put!(html; "<li>", Sentence(&item.words));
+    html.markup("<li>");
+    add_sentence(html, &item.words);
     if !item.below.is_empty() {
-        put!(html; "<ul>");
+        html.markup("<ul>");
         add_sentences(html, "<li>", &item.below, "</li>");
-        put!(html; "</ul>")
+        html.markup("</ul>")
     }
-    put!(html; "</li>\n")
+    html.markup("</li>\n")
 }
 
 /// Adds a column.
 fn add_column(html: &mut Html, column: &Column) {
-    put!(html; "<div><h3>", Shown(&column.heading), "</h3>");
+    html.show("<div><h3>@</h3>", &column.heading);
     if !column.items.is_empty() {
-        put!(html; "<ul>\n");
+        html.markup("<ul>\n");
         for item in &column.items {
             add_item(html, item);
         }
-        put!(html; "</ul>")
+        html.markup("</ul>")
     }
-    put!(html; "</div>")
+    html.markup("</div>")
 }
 
 /// Adds the header: the files, the verdict, and two columns.
 pub(crate) fn add_header(html: &mut Html, sheet: &Sheet) {
     let header = &sheet.header;
-    put!(html; "<header><div class=\"file\"><span>Capcheck of <b>", Shown(&header.task), "</b>");
+    html.show(
+        "<header><div class=\"file\"><span>Capcheck of <b>@</b>",
+        &header.task,
+    );
     if let Some(certificate) = &header.certificate {
-        put!(html; " with <b>", Shown(certificate), "</b>")
+        html.show(" with <b>@</b>", certificate)
     }
-    put!(html; "</span>");
+    html.markup("</span>");
     add_links(html, sheet);
-    put!(html; "</div>\n<h1><b class=\"", header.verdict.class(), "\">", Shown(&header.word), "</b> ", Shown(&header.heading));
-    put!(html; "</h1>\n<p class=\"lead\">", Sentence(&header.lead), "</p>\n<div class=\"two\">");
+    let parts = [
+        Markup(header.verdict.class()),
+        Shown(&header.word),
+        Shown(&header.heading),
+    ];
+    html.fill(
+        "</div>\n<h1><b class=\"@\">@</b> @</h1>\n<p class=\"lead\">",
+        &parts,
+    );
+    add_sentence(html, &header.lead);
+    html.markup("</p>\n<div class=\"two\">");
     add_column(html, &header.left);
     add_column(html, &header.right);
-    put!(html; "</div></header>\n")
+    html.markup("</div></header>\n")
 }

@@ -1,11 +1,21 @@
-//! HTML that grows. Nothing gets into it but constants of this crate, numbers, names, and texts that are escaped.
+//! HTML that grows. Nothing gets into it but constants of this crate, numbers, and texts that are escaped.
 
 ghost use Rattle.std.specs.Prelude.{◌≡◌, [], false, length, true};
 
 use crate::escaping::add_shown;
-use crate::sentences::Place;
 use std::alloc::Global;
-use texts::{Name, Page, Say};
+use texts::{Page, Say, first_part};
+
+/// What can stand in a template.
+#[derive(Clone, Copy)]
+pub(crate) enum Part<'p> {
+    /// Markup and words of this crate.
+    Markup(&'static str),
+    /// A number in decimal digits.
+    Number(u32),
+    /// A text that isn't the page's own, escaped.
+    Shown(&'p [u8]),
+}
 
 /// HTML that grows. Where memory is refused it goes on without what is added, and its page says so.
 #[derive(Drop)]
@@ -50,78 +60,42 @@ impl Html {
     {
         self.page.fail()
     }
-}
 
-/// A text that isn't the page's own.
-#[derive(Clone, Copy)]
-pub struct Shown<'t>(pub &'t [u8]);
-
-/// What can stand in HTML.
-pub trait Put {
-    /// Adds it.
-    fn put(self, html: &mut Html);
-}
-
-/// Adds what stands behind it to HTML, one after another.
-#[macro_export]
-macro_rules! put {
-    ($html:expr; $($part:expr),+ $(,)?) => {
-        $crate::html::Put::put(texts::parts_of!($($part),+), $html)
-    };
-}
-
-/// Two parts, one behind the other.
-impl<A: Put, B: Put> Put for (A, B) {
-    fn put(self, html: &mut Html) {
-        let (first, second) = self;
-        first.put(html);
-        second.put(html);
+    /// Adds markup and words of this crate.
+    pub(crate) fn markup(&mut self, text: &'static str) {
+        self.page.bytes(text.as_bytes())
     }
-}
 
-/// Markup and words of this crate.
-impl Put for &'static str {
-    fn put(self, html: &mut Html) {
-        self.say(&mut html.page)
+    /// Adds a template, with the next part in place of each `@` of it.
+    pub(crate) fn fill(&mut self, template: &'static str, parts: &[Part<'_>]) {
+        let mut rest = template.as_bytes();
+        for part in parts {
+            let (front, back) = first_part(rest, b'@');
+            self.page.bytes(front);
+            self.put(*part);
+            rest = back.unwrap_or(b"");
+        }
+        self.page.bytes(rest)
     }
-}
 
-/// A number in decimal digits.
-impl Put for u32 {
-    fn put(self, html: &mut Html) {
-        self.say(&mut html.page)
+    /// Adds what can stand in a template.
+    fn put(&mut self, part: Part<'_>) {
+        match part {
+            Part::Markup(text) => self.markup(text),
+            Part::Number(number) => number.say(&mut self.page),
+            Part::Shown(text) => add_shown(&mut self.page, text),
+        }
     }
-}
 
-impl Put for u8 {
-    fn put(self, html: &mut Html) {
-        self.say(&mut html.page)
+    /// Adds a template with a text that isn't the page's own in it.
+    pub(crate) fn show(&mut self, template: &'static str, text: &[u8]) {
+        self.fill(template, &[Part::Shown(text)])
     }
-}
 
-impl Put for usize {
-    fn put(self, html: &mut Html) {
-        self.say(&mut html.page)
-    }
-}
-
-/// A text, escaped.
-impl<'t> Put for Shown<'t> {
-    fn put(self, html: &mut Html) {
-        add_shown(&mut html.page, self.0)
-    }
-}
-
-/// A name of a program, which has letters, digits and `_` alone.
-impl<'n> Put for &'n Name {
-    fn put(self, html: &mut Html) {
-        self.as_bytes().say(&mut html.page)
-    }
-}
-
-/// The `id` of a point's row.
-impl<'p> Put for &'p Place {
-    fn put(self, html: &mut Html) {
-        put!(html; &self.program, "-", self.point)
+    /// The same, unless the text is empty.
+    pub(crate) fn show_some(&mut self, template: &'static str, text: &[u8]) {
+        if !text.is_empty() {
+            self.show(template, text)
+        }
     }
 }

@@ -4,8 +4,8 @@ ghost use Rattle.std.specs.Prelude.{◌≡◌, ◌≤◌, length, take};
 ghost use Rattle.std.specs.List.{count_by};
 ghost use Rattle.page.specs.Letters.{begins_letter};
 
-use crate::html::{Html, Shown};
-use crate::put;
+use crate::html::Html;
+use crate::html::Part::{Markup, Number, Shown};
 use crate::sentences::add_sentences;
 use crate::sheets::{Change, Line, Listing, Mode, OpenKind, OpenState, Remark, RemarkKind};
 
@@ -43,61 +43,73 @@ pub fn first_letters(text: &[u8], limit: usize) -> &[u8]
     text
 }
 
-/// Adds the first letters of a text in an element, and says by dots if there are more.
-fn add_letters(html: &mut Html, begin: &'static str, text: &[u8], end: &'static str) {
+/// Adds the first letters of a text in a template, behind which it says by dots if there are more.
+fn add_letters(html: &mut Html, template: &'static str, text: &[u8]) {
     let front = first_letters(text, MAX_LETTERS);
     let dots = if front.len() < text.len() { "…" } else { "" };
-    put!(html; begin, Shown(front), dots, end)
+    html.fill(template, &[Shown(front), Markup(dots)])
 }
 
 /// Adds the cell of a number.
 fn add_state(html: &mut Html, state: OpenState) {
-    let class = match state.kind {
+    html.markup(match state.kind {
         OpenKind::Closed => "<td class=\"l",
         OpenKind::Granted => "<td class=\"l G",
         OpenKind::Beyond => "<td class=\"l W",
         OpenKind::End => "<td class=\"l S",
         OpenKind::Nowhere => "<td class=\"l N",
-    };
-    put!(html; class, if state.maybe { " e\"></td>" } else { "\"></td>" })
+    });
+    html.markup(if state.maybe {
+        " e\"></td>"
+    } else {
+        "\"></td>"
+    })
 }
 
 /// Adds the text of a line: the instruction, where an error leads, and the comment.
 fn add_source(html: &mut Html, line: &Line) {
-    let (begin, end) = if line.is_broken {
-        ("<u>", "</u>")
-    } else {
-        ("", "")
-    };
-    add_letters(html, "", &line.indent, "");
-    add_letters(html, begin, &line.text, end);
+    add_letters(html, "@@", &line.indent);
+    add_letters(
+        html,
+        if line.is_broken { "<u>@@</u>" } else { "@@" },
+        &line.text,
+    );
     if !line.tail.is_empty() {
-        add_letters(html, "<s>", &line.tail, "</s>")
+        add_letters(html, "<s>@@</s>", &line.tail)
     }
     if !line.comment.is_empty() {
-        add_letters(html, "<i>", &line.comment, "</i>")
+        add_letters(html, "<i>@@</i>", &line.comment)
     }
 }
 
 /// Adds what has changed before a point.
 fn add_changes(html: &mut Html, changes: &[Change]) {
-    put!(html; "<ul>");
+    html.markup("<ul>");
     for change in changes {
-        put!(html; "<li class=\"", change.tone.class(), "\">", Shown(&change.text), "</li>")
+        html.fill(
+            "<li class=\"@\">@</li>",
+            &[Markup(change.tone.class()), Shown(&change.text)],
+        )
     }
-    put!(html; "</ul>")
+    html.markup("</ul>")
 }
 
 /// Adds what is told below a line.
-fn add_remark(html: &mut Html, remark: &Remark, columns: usize) {
-    put!(html; match remark.kind {
-        RemarkKind::Finding => "<tr class=\"E\"><td colspan=\"",
-        RemarkKind::Warning => "<tr class=\"E W\"><td colspan=\"",
-        RemarkKind::Authority => "<tr class=\"E M\"><td colspan=\"",
-    });
-    put!(html; columns, "\">");
+fn add_remark(html: &mut Html, remark: &Remark, numbers: &[u8]) {
+    let columns = u32::try_from(numbers.len())
+        .unwrap_or(u32::MAX)
+        .saturating_add(4);
+    let class = match remark.kind {
+        RemarkKind::Finding => "E",
+        RemarkKind::Warning => "E W",
+        RemarkKind::Authority => "E M",
+    };
+    html.fill(
+        "<tr class=\"@\"><td colspan=\"@\">",
+        &[Markup(class), Number(columns)],
+    );
     add_sentences(html, "<p>", &remark.paragraphs, "</p>");
-    put!(html; "</td></tr>\n")
+    html.markup("</td></tr>\n")
 }
 
 /// The classes of a line's row.
@@ -117,17 +129,23 @@ fn row_class(line: &Line) -> &'static str {
 fn add_cells(html: &mut Html, listing: &Listing, line: &Line) {
     match line.point {
         Some(point) => {
-            put!(html; "<tr id=\"", &listing.program, "-", point, "\" class=\"", row_class(line));
-            put!(html; "\"><td class=\"k\">", line.number, "</td><td class=\"q\">", point, "</td><td class=\"o\">", line.mode_word, "</td>")
+            let (number, point) = (Number(line.number), Number(u32::from(point)));
+            let (program, class) = (Shown(listing.program.as_bytes()), Markup(row_class(line)));
+            html.fill(
+                "<tr id=\"@-@\" class=\"@\"><td class=\"k\">@</td><td class=\"q\">@</td><td class=\"o\">@</td>",
+                &[program, point, class, number, point, Markup(line.mode_word)],
+            )
         }
-        None =>
-            put!(html; "<tr><td class=\"k\">", line.number, "</td><td class=\"q\"></td><td class=\"o\"></td>"),
+        None => html.fill(
+            "<tr><td class=\"k\">@</td><td class=\"q\"></td><td class=\"o\"></td>",
+            &[Number(line.number)],
+        ),
     }
     for state in &line.states {
         add_state(html, *state);
     }
     for _ in line.states.len()..listing.numbers.len() {
-        put!(html; "<td class=\"l\"></td>")
+        html.markup("<td class=\"l\"></td>")
     }
 }
 
@@ -135,28 +153,35 @@ fn add_cells(html: &mut Html, listing: &Listing, line: &Line) {
 fn add_line(html: &mut Html, listing: &Listing, line: &Line) {
     add_cells(html, listing, line);
     if line.changes.is_empty() {
-        put!(html; "<td class=\"c\">");
+        html.markup("<td class=\"c\">");
         add_source(html, line)
     } else {
-        put!(html; "<td class=\"c\"><div class=\"g\"><div>");
+        html.markup("<td class=\"c\"><div class=\"g\"><div>");
         add_source(html, line);
-        put!(html; "</div>");
+        html.markup("</div>");
         add_changes(html, &line.changes);
-        put!(html; "</div>")
+        html.markup("</div>")
     }
-    put!(html; "</td></tr>\n");
+    html.markup("</td></tr>\n");
     for remark in &line.remarks {
-        add_remark(html, remark, listing.numbers.len().saturating_add(4))
+        add_remark(html, remark, &listing.numbers)
     }
 }
 
 /// Adds the heads of the columns.
 fn add_heads(html: &mut Html, listing: &Listing) {
-    put!(html; "<thead><tr><th class=\"k\" scope=\"col\">line</th><th class=\"q\" scope=\"col\">point</th><th class=\"o\" scope=\"col\">mode</th>");
+    html.markup(
+        "<thead><tr><th class=\"k\" scope=\"col\">line</th><th class=\"q\" scope=\"col\">point</th><th class=\"o\" scope=\"col\">mode</th>",
+    );
     for number in &listing.numbers {
-        put!(html; "<th class=\"l\" scope=\"col\">", *number, "</th>")
+        html.fill(
+            "<th class=\"l\" scope=\"col\">@</th>",
+            &[Number(u32::from(*number))],
+        )
     }
-    put!(html; "<th class=\"c\" scope=\"col\"><div class=\"g\"><div>program</div><div>changes of what may be open</div></div></th></tr></thead><tbody>\n")
+    html.markup(
+        "<th class=\"c\" scope=\"col\"><div class=\"g\"><div>program</div><div>changes of what may be open</div></div></th></tr></thead><tbody>\n",
+    )
 }
 
 /// Adds the lines of a program, as far as they fit the program's share and what is left of that of all. Says how many were left out.
@@ -170,28 +195,41 @@ fn add_lines(html: &mut Html, listing: &Listing, room: usize) {
             left_out = left_out.saturating_add(1)
         }
     }
-    put!(html; "</tbody></table></div>\n");
+    html.markup("</tbody></table></div>\n");
     if left_out > 0 {
-        put!(html; "<p class=\"h\">", left_out, " more lines aren’t shown: the page would be too long.</p>\n")
+        html.fill(
+            "<p class=\"h\">@ more lines aren’t shown: the page would be too long.</p>\n",
+            &[Number(left_out)],
+        )
     }
 }
 
 /// Adds a program.
 fn add_listing(html: &mut Html, listing: &Listing, room: usize) {
-    put!(html; "<h3>", &listing.program, if listing.is_untrusted { " <span class=\"mode\">untrusted</span>" } else { "" }, "</h3>\n");
-    put!(html; "<div class=\"x\" tabindex=\"0\" role=\"group\" aria-label=\"The program ", &listing.program, "\"><table class=\"ls\">");
+    let marked = if listing.is_untrusted {
+        " <span class=\"mode\">untrusted</span>"
+    } else {
+        ""
+    };
+    let program = Shown(listing.program.as_bytes());
+    html.fill(
+        "<h3>@@</h3>\n<div class=\"x\" tabindex=\"0\" role=\"group\" aria-label=\"The program @\"><table class=\"ls\">",
+        &[program, Markup(marked), program],
+    );
     add_heads(html, listing);
     add_lines(html, listing, room)
 }
 
 /// Adds the programs.
 pub(crate) fn add_listings(html: &mut Html, listings: &[Listing]) {
-    put!(html; "<section id=\"programs\"><h2>Programs</h2>\n<p class=\"h\">Blue rows are in the mode, and a dotted edge is in it or not. \
-        Each column behind the mode is a descriptor: black of a grant, blue an end of a pair, red of no grant in the mode, dotted where it may be closed.</p>\n");
+    html.markup(
+        "<section id=\"programs\"><h2>Programs</h2>\n<p class=\"h\">Blue rows are in the mode, and a dotted edge is in it or not. \
+        Each column behind the mode is a descriptor: black of a grant, blue an end of a pair, red of no grant in the mode, dotted where it may be closed.</p>\n",
+    );
     let start = html.len();
     for listing in listings {
         let left = MAX_LISTINGS.saturating_sub(html.len().saturating_sub(start));
         add_listing(html, listing, left.min(MAX_TEXT));
     }
-    put!(html; "</section>\n")
+    html.markup("</section>\n")
 }

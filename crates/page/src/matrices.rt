@@ -1,7 +1,7 @@
 //! The rights in the mode, a row for each program and grant, a column for each right.
 
-use crate::html::{Html, Shown};
-use crate::put;
+use crate::html::Html;
+use crate::html::Part::{Markup, Number, Shown};
 use crate::sentences::{Tone, add_sentences};
 use crate::sheets::PointGroup;
 
@@ -9,7 +9,7 @@ use crate::sheets::PointGroup;
 pub const RIGHTS: usize = 14;
 
 /// The rights by what they are for.
-const GROUPS: [(&str, u8); 6] = [
+const GROUPS: [(&str, u32); 6] = [
     ("look", 2),
     ("read", 1),
     ("write", 2),
@@ -88,21 +88,29 @@ pub struct Matrix {
 
 /// Adds the heads of the columns.
 fn add_heads(html: &mut Html) {
-    put!(html; "<thead><tr><td></td>");
+    html.markup("<thead><tr><td></td>");
     for (name, columns) in &GROUPS {
-        put!(html; "<th class=\"o\" colspan=\"", *columns, "\" scope=\"colgroup\"><b>", *name, "</b></th>")
+        let parts = [Number(*columns), Markup(*name)];
+        html.fill(
+            "<th class=\"o\" colspan=\"@\" scope=\"colgroup\"><b>@</b></th>",
+            &parts,
+        )
     }
-    put!(html; "<td></td></tr><tr><td></td>");
+    html.markup("<td></td></tr><tr><td></td>");
     for name in &NAMES {
-        put!(html; "<th scope=\"col\"><span>", *name, "</span></th>")
+        html.fill("<th scope=\"col\"><span>@</span></th>", &[Markup(*name)])
     }
-    put!(html; "<td></td></tr></thead>")
+    html.markup("<td></td></tr></thead>")
 }
 
 /// Adds a right of a row.
 fn add_cell(html: &mut Html, cell: Cell) {
-    put!(html; if cell.is_allowed { "<td class=\"a\">" } else { "<td>" });
-    put!(html; match cell.mark {
+    html.markup(if cell.is_allowed {
+        "<td class=\"a\">"
+    } else {
+        "<td>"
+    });
+    html.markup(match cell.mark {
         Mark::None => "</td>",
         Mark::Used => "<i class=\"u\">may be used</i></td>",
         Mark::Idle => "<i>held</i></td>",
@@ -114,36 +122,40 @@ fn add_cell(html: &mut Html, cell: Cell) {
 /// How many letters of a path are shown at each end of a long one.
 const PATH_ENDS: usize = 16;
 
-/// Adds the path of a grant: of a long one the middle is left out.
+/// Adds the path of a grant, if it has one: of a long one the middle is left out.
 fn add_path(html: &mut Html, path: &[u8]) {
     if path.len() <= 2 * PATH_ENDS {
-        return put!(html; Shown(path));
+        return html.show_some(" <small>@</small>", path);
     }
-    put!(html; Shown(&path[..PATH_ENDS]), "…", Shown(&path[path.len() - PATH_ENDS..]))
+    let (front, back) = (&path[..PATH_ENDS], &path[path.len() - PATH_ENDS..]);
+    html.fill(" <small>@…@</small>", &[Shown(front), Shown(back)])
 }
 
 /// Adds a row.
 fn add_row(html: &mut Html, row: &MatrixRow) {
-    put!(html; "<tr class=\"r\"><th scope=\"row\"><b>", Shown(&row.grant), "</b>");
-    if !row.path.is_empty() {
-        put!(html; " <small>");
-        add_path(html, &row.path);
-        put!(html; "</small>")
-    }
-    put!(html; "</th>");
+    html.show("<tr class=\"r\"><th scope=\"row\"><b>@</b>", &row.grant);
+    add_path(html, &row.path);
+    html.markup("</th>");
     for cell in &row.cells {
         add_cell(html, *cell);
     }
-    put!(html; "<td class=\"v\"><span class=\"", row.tone.class(), "\">", Shown(&row.count), "</span></td></tr>\n")
+    let parts = [Markup(row.tone.class()), Shown(&row.count)];
+    html.fill(
+        "<td class=\"v\"><span class=\"@\">@</span></td></tr>\n",
+        &parts,
+    )
 }
 
 /// Adds the rows of a program.
 fn add_group(html: &mut Html, group: &MatrixGroup) {
-    put!(html; "<tbody><tr class=\"p\"><th colspan=\"16\" scope=\"rowgroup\">", Shown(&group.title), "</th></tr>\n");
+    html.show(
+        "<tbody><tr class=\"p\"><th colspan=\"16\" scope=\"rowgroup\">@</th></tr>\n",
+        &group.title,
+    );
     for row in &group.rows {
         add_row(html, row);
     }
-    put!(html; "</tbody>")
+    html.markup("</tbody>")
 }
 
 /// Whether some right has this mark.
@@ -163,13 +175,13 @@ fn has_mark(matrix: &Matrix, mark: Mark) -> bool {
 /// Adds what a mark stands for, if it occurs.
 fn add_meaning(html: &mut Html, matrix: &Matrix, mark: Mark, meaning: &'static str) {
     if has_mark(matrix, mark) {
-        put!(html; meaning)
+        html.markup(meaning)
     }
 }
 
 /// Adds the key.
 fn add_key(html: &mut Html, matrix: &Matrix) {
-    put!(html; "<p class=\"key\">");
+    html.markup("<p class=\"key\">");
     add_meaning(
         html,
         matrix,
@@ -194,31 +206,33 @@ fn add_key(html: &mut Html, matrix: &Matrix) {
         Mark::Broken,
         "<span><i class=\"z\">&nbsp;</i>used beyond what the grant allows, or in no grant</span>",
     );
-    put!(html; "<span><span class=\"a\">&nbsp;</span>the grant allows what it is for</span></p>")
+    html.markup("<span><span class=\"a\">&nbsp;</span>the grant allows what it is for</span></p>")
 }
 
 /// Adds what is held point by point.
 fn add_points(html: &mut Html, points: &[PointGroup]) {
-    put!(html; "<details><summary>By point, outside the mode too</summary>");
+    html.markup("<details><summary>By point, outside the mode too</summary>");
     for group in points {
-        put!(html; "<h3>", &group.program, "</h3><ul>");
+        html.show("<h3>@</h3><ul>", group.program.as_bytes());
         add_sentences(html, "<li>", &group.items, "</li>");
-        put!(html; "</ul>\n")
+        html.markup("</ul>\n")
     }
-    put!(html; "</details>")
+    html.markup("</details>")
 }
 
 /// Adds the rights in the mode.
 pub(crate) fn add_matrix(html: &mut Html, matrix: &Matrix) {
-    put!(html; "<section id=\"rights\"><h2>Rights in the mode</h2><p class=\"h\">All rights that some descriptor of a program may have in a grant, \
+    html.markup(
+        "<section id=\"rights\"><h2>Rights in the mode</h2><p class=\"h\">All rights that some descriptor of a program may have in a grant, \
         at any point in the mode, sorted by what they are for.</p>\n\
-        <div class=\"x\" tabindex=\"0\" role=\"group\" aria-label=\"Rights by program and grant\"><table class=\"mx\">");
+        <div class=\"x\" tabindex=\"0\" role=\"group\" aria-label=\"Rights by program and grant\"><table class=\"mx\">",
+    );
     add_heads(html);
     for group in &matrix.groups {
         add_group(html, group);
     }
-    put!(html; "</table></div>");
+    html.markup("</table></div>");
     add_key(html, matrix);
     add_points(html, &matrix.points);
-    put!(html; "</section>\n")
+    html.markup("</section>\n")
 }

@@ -1,8 +1,8 @@
 //! The run of a breach: its steps as a list, and beside them a lane for each process.
 
-use crate::html::{Html, Shown};
-use crate::put;
-use crate::sentences::{Sentence, Tone};
+use crate::html::Html;
+use crate::html::Part::{Markup, Number, Shown};
+use crate::sentences::add_sentence;
 use crate::sheets::{Lane, Run, Step};
 use crate::wires::Point;
 
@@ -38,15 +38,19 @@ fn place_of(lane: usize, step: usize) -> Point {
     }
 }
 
-/// The tone of what is done in the mode or outside it.
-fn mode_tone(is_inside: bool) -> Tone {
-    if is_inside { Tone::InMode } else { Tone::Faint }
+/// The class of a line of what is done in the mode or outside it.
+fn line_class(is_inside: bool) -> &'static str {
+    if is_inside { "mode" } else { "thin" }
 }
 
 /// Adds a stretch of a lane.
 fn add_stretch(html: &mut Html, x: u32, from: u32, to: u32, is_inside: bool) {
     if from < to {
-        put!(html; "<path class=\"w ", mode_tone(is_inside).line_class(), "\" d=\"M", x, " ", from, "V", to, "\"/>")
+        let class = Markup(line_class(is_inside));
+        html.fill(
+            "<path class=\"w @\" d=\"M@ @V@\"/>",
+            &[class, Number(x), Number(from), Number(to)],
+        )
     }
 }
 
@@ -68,60 +72,89 @@ fn add_lane(html: &mut Html, number: usize, lane: Lane, height: u32) {
 }
 
 /// Adds the curve of a message, with its head.
-fn add_message(html: &mut Html, from: Point, to: Point, tone: Tone) {
-    let class = tone.line_class();
-    let (x, y) = (to.x, to.y);
-    let (tip, end, head) = if from.x < x {
-        (x.saturating_sub(4), x.saturating_sub(9), "l-7 -4v8z\"/>")
+fn add_message(html: &mut Html, from: Point, to: Point, is_descriptor: bool) {
+    let (tip, end, head) = if from.x < to.x {
+        (
+            to.x.saturating_sub(4),
+            to.x.saturating_sub(9),
+            "l-7 -4v8z\"/>",
+        )
     } else {
-        (x.saturating_add(4), x.saturating_add(9), "l7 -4v8z\"/>")
+        (
+            to.x.saturating_add(4),
+            to.x.saturating_add(9),
+            "l7 -4v8z\"/>",
+        )
     };
-    let middle = from.x / 2 + x / 2;
-    let leaves = Point {
-        x: middle,
-        y: from.y,
-    };
-    let arrives = Point { x: middle, y };
-    put!(html; "<path class=\"w ", class, "\" d=\"M", from, "C", leaves, " ", arrives, " ", Point { x: end, y });
-    put!(html; "\"/><path class=\"d ", class, "\" d=\"M", Point { x: tip, y }, head)
+    let class = Markup(line_class(is_descriptor));
+    let middle = Number(from.x / 2 + to.x / 2);
+    let (begin, above, below) = (Number(from.x), Number(from.y), Number(to.y));
+    html.fill(
+        "<path class=\"w @\" d=\"M@ @C@ @ @ @ @ @\"/><path class=\"d @\" d=\"M@ @@",
+        &[
+            class,
+            begin,
+            above,
+            middle,
+            above,
+            middle,
+            below,
+            Number(end),
+            below,
+            class,
+            Number(tip),
+            below,
+            Markup(head),
+        ],
+    )
 }
 
 /// Adds what a step draws beside its lanes: the process that it makes, and the message that it takes.
 fn add_links(html: &mut Html, run: &Run, at: usize, step: &Step) {
     let own = place_of(step.lane, at);
     if let Some(child) = step.forks {
-        put!(html; "<path class=\"w ", mode_tone(step.is_inside).line_class(), "\" d=\"M", own, "H", lane_x(child), "\"/>")
+        let (class, end) = (Markup(line_class(step.is_inside)), Number(lane_x(child)));
+        html.fill(
+            "<path class=\"w @\" d=\"M@ @H@\"/>",
+            &[class, Number(own.x), Number(own.y), end],
+        )
     }
-    if let Some(message) = step.takes {
-        if let Some(sender) = run.steps.get(message.sent_at) {
-            if sender.lane != step.lane {
-                let from = place_of(sender.lane, message.sent_at);
-                add_message(html, from, own, mode_tone(message.is_descriptor))
-            }
+    let Some(message) = step.takes else {
+        return;
+    };
+    if let Some(sender) = run.steps.get(message.sent_at) {
+        if sender.lane != step.lane {
+            let from = place_of(sender.lane, message.sent_at);
+            add_message(html, from, own, message.is_descriptor)
         }
     }
 }
 
 /// Adds the dot of a step: the last one is red.
 fn add_dot(html: &mut Html, at: usize, step: &Step, is_last: bool) {
-    let tone = if is_last {
-        Tone::Broken
+    let (class, radius) = if is_last {
+        ("bad", "5")
     } else {
-        mode_tone(step.is_inside)
+        (line_class(step.is_inside), "3")
     };
-    put!(html; "<circle class=\"d ", tone.line_class(), "\" cx=\"", lane_x(step.lane), "\" cy=\"", step_y(at), "\" r=\"");
-    put!(html; if is_last { "5\"/>" } else { "3\"/>" })
-}
-
-/// The width of the lanes.
-fn lanes_width(run: &Run) -> u32 {
-    lane_x(run.lanes.len()).saturating_sub(2)
+    html.fill(
+        "<circle class=\"d @\" cx=\"@\" cy=\"@\" r=\"@\"/>",
+        &[
+            Markup(class),
+            Number(lane_x(step.lane)),
+            Number(step_y(at)),
+            Markup(radius),
+        ],
+    )
 }
 
 /// Adds the lanes of a run, which are hidden from readers: the list says the same.
-fn add_lanes(html: &mut Html, run: &Run) {
+fn add_lanes(html: &mut Html, run: &Run, width: u32) {
     let height = drawn(run.steps.len()).saturating_mul(ROW);
-    put!(html; "<svg width=\"", lanes_width(run), "\" height=\"", height, "\" aria-hidden=\"true\">");
+    html.fill(
+        "<svg width=\"@\" height=\"@\" aria-hidden=\"true\">",
+        &[Number(width), Number(height)],
+    );
     for (number, lane) in run.lanes.iter().enumerate() {
         add_lane(html, number, *lane, height);
     }
@@ -131,21 +164,23 @@ fn add_lanes(html: &mut Html, run: &Run) {
     for (at, step) in run.steps.iter().enumerate() {
         add_dot(html, at, step, at.saturating_add(1) == run.steps.len());
     }
-    put!(html; "</svg>")
+    html.markup("</svg>")
 }
 
 /// How many letters of a text are shown.
-fn letters(text: &[u8]) -> usize {
-    text.len().min(MAX_LETTERS)
+fn letters(text: &[u8]) -> u32 {
+    drawn(text.len().min(MAX_LETTERS))
 }
 
 /// How many letters the columns of a run have at most.
 #[derive(Clone, Copy)]
 struct Widths {
-    who: usize,
-    text: usize,
-    whole: usize,
-    result: usize,
+    who: u32,
+    text: u32,
+    whole: u32,
+    result: u32,
+    /// The greatest line.
+    line: u32,
 }
 
 /// The widths of a run's columns.
@@ -155,6 +190,7 @@ fn measure(run: &Run) -> Widths {
         text: 0,
         whole: 0,
         result: 0,
+        line: 0,
     };
     for step in &run.steps {
         let text = letters(&step.text);
@@ -162,6 +198,7 @@ fn measure(run: &Run) -> Widths {
         widths.text = widths.text.max(text);
         widths.whole = widths.whole.max(letters(&step.tail).saturating_add(text));
         widths.result = widths.result.max(letters(&step.result));
+        widths.line = widths.line.max(step.line);
     }
     widths
 }
@@ -177,52 +214,77 @@ fn digits(number: u32) -> u32 {
     }
 }
 
-/// The greatest line of a run's steps.
-fn greatest_line(run: &Run) -> u32 {
-    let mut greatest = 0;
-    for step in &run.steps {
-        greatest = greatest.max(step.line);
-    }
-    greatest
-}
-
 /// Adds a step as an item of the list.
 fn add_step(html: &mut Html, run: &Run, at: usize, step: &Step) {
     let number = drawn(at).saturating_add(run.left_out).saturating_add(1);
-    put!(html; if at.saturating_add(1) == run.steps.len() { "<li class=\"f\">" } else { "<li>" });
-    put!(html; "<span class=\"n\">", number, "</span><span>", Shown(&step.who), "</span><a class=\"n\" href=\"#", &step.place);
-    put!(html; "\">", step.line, "</a><span>", Shown(&step.text));
-    if !step.tail.is_empty() {
-        put!(html; "<s>", Shown(&step.tail), "</s>")
-    }
-    put!(html; "</span><span class=\"n\">", Shown(&step.result), "</span>");
-    if !step.deed.is_empty() {
-        put!(html; "<span>", Shown(&step.deed), "</span>")
-    }
-    put!(html; "</li>\n")
+    html.markup(if at.saturating_add(1) == run.steps.len() {
+        "<li class=\"f\">"
+    } else {
+        "<li>"
+    });
+    let (program, point) = (step.place.program.as_bytes(), u32::from(step.place.point));
+    html.fill(
+        "<span class=\"n\">@</span><span>@</span><a class=\"n\" href=\"#@-@\">@</a><span>@",
+        &[
+            Number(number),
+            Shown(&step.who),
+            Shown(program),
+            Number(point),
+            Number(step.line),
+            Shown(&step.text),
+        ],
+    );
+    html.show_some("<s>@</s>", &step.tail);
+    html.show("</span><span class=\"n\">@</span>", &step.result);
+    html.show_some("<span>@</span>", &step.deed);
+    html.markup("</li>\n")
 }
 
 /// Adds the steps as a list.
-fn add_steps(html: &mut Html, run: &Run) {
+fn add_steps(html: &mut Html, run: &Run, width: u32) {
     let widths = measure(run);
-    let last = drawn(run.steps.len()).saturating_add(run.left_out);
-    put!(html; "<ol style=\"--p:", lanes_width(run), "px;--t:", widths.whole.saturating_add(1), "ch;--s:", widths.text, "ch;--g:");
-    put!(html; digits(last), "ch ", widths.who, "ch ", digits(greatest_line(run)), "ch;--e:", widths.result, "ch\">\n");
+    let last = digits(drawn(run.steps.len()).saturating_add(run.left_out));
+    let (whole, lines) = (
+        Number(widths.whole.saturating_add(1)),
+        Number(digits(widths.line)),
+    );
+    html.fill(
+        "<ol style=\"--p:@px;--t:@ch;--s:@ch;--g:@ch @ch @ch;--e:@ch\">\n",
+        &[
+            Number(width),
+            whole,
+            Number(widths.text),
+            Number(last),
+            Number(widths.who),
+            lines,
+            Number(widths.result),
+        ],
+    );
     for (at, step) in run.steps.iter().enumerate() {
         add_step(html, run, at, step);
     }
-    put!(html; "</ol>")
+    html.markup("</ol>")
 }
 
 /// Adds a run.
 pub(crate) fn add_run(html: &mut Html, run: &Run) {
-    put!(html; "<section id=\"run\"><h2>The run</h2><p class=\"h\">Time goes down, and each process has a lane: thin outside the mode, blue in it. \
-        A blue curve is a descriptor that is passed, a thin one a byte.</p>\n");
+    html.markup(
+        "<section id=\"run\"><h2>The run</h2><p class=\"h\">Time goes down, and each process has a lane: thin outside the mode, blue in it. \
+        A blue curve is a descriptor that is passed, a thin one a byte.</p>\n",
+    );
     if run.left_out > 0 {
-        put!(html; "<p class=\"h\">", run.left_out, " steps came before these.</p>\n")
+        html.fill(
+            "<p class=\"h\">@ steps came before these.</p>\n",
+            &[Number(run.left_out)],
+        )
     }
-    put!(html; "<div class=\"x\" tabindex=\"0\" role=\"group\" aria-label=\"The run, step by step\"><div class=\"run\">");
-    add_lanes(html, run);
-    add_steps(html, run);
-    put!(html; "</div></div>\n<p class=\"end\">", Sentence(&run.end), "</p></section>\n")
+    html.markup(
+        "<div class=\"x\" tabindex=\"0\" role=\"group\" aria-label=\"The run, step by step\"><div class=\"run\">",
+    );
+    let width = lane_x(run.lanes.len()).saturating_sub(2);
+    add_lanes(html, run, width);
+    add_steps(html, run, width);
+    html.markup("</div></div>\n<p class=\"end\">");
+    add_sentence(html, &run.end);
+    html.markup("</p></section>\n")
 }

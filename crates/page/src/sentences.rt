@@ -1,7 +1,7 @@
 //! Sentences with links in them.
 
-use crate::html::{Html, Put, Shown};
-use crate::put;
+use crate::html::Html;
+use crate::html::Part::{Number, Shown};
 use texts::Name;
 
 /// How something is meant: shown by a colour, and always said by words too.
@@ -71,34 +71,36 @@ pub enum Piece {
 
 /// Adds a part of a sentence.
 fn add_piece(html: &mut Html, piece: &Piece) {
-    let (before, words, behind) = match piece {
-        Piece::Plain(words) => ("", words, ""),
-        Piece::Code(words) => ("<code>", words, "</code>"),
-        Piece::Strong(words) => ("<b>", words, "</b>"),
-        Piece::Tag(words) => ("<span class=\"tag warn\">", words, "</span>"),
+    match piece {
+        Piece::Plain(words) => html.show("@", words),
+        Piece::Code(words) => html.show("<code>@</code>", words),
+        Piece::Strong(words) => html.show("<b>@</b>", words),
+        Piece::Tag(words) => html.show("<span class=\"tag warn\">@</span>", words),
         Piece::Link(place, words) => {
-            put!(html; "<a href=\"#", place);
-            ("\">", words, "</a>")
+            let (program, point) = (Shown(place.program.as_bytes()), u32::from(place.point));
+            html.fill(
+                "<a href=\"#@-@\">@</a>",
+                &[program, Number(point), Shown(words)],
+            )
         }
         Piece::Rule(rule) => {
-            return put!(html; "<a href=\"#K", *rule, "\"><b>K", *rule, "</b></a>");
+            let number = Number(u32::from(*rule));
+            html.fill("<a href=\"#K@\"><b>K@</b></a>", &[number, number])
         }
         Piece::RuleTag(rule) => {
-            return put!(html; "<a class=\"tag bad\" href=\"#K", *rule, "\">K", *rule, "</a>");
+            let number = Number(u32::from(*rule));
+            html.fill(
+                "<a class=\"tag bad\" href=\"#K@\">K@</a>",
+                &[number, number],
+            )
         }
-    };
-    put!(html; before, Shown(words), behind)
+    }
 }
 
-/// A sentence, part by part.
-#[derive(Clone, Copy)]
-pub struct Sentence<'p>(pub &'p [Piece]);
-
-impl<'p> Put for Sentence<'p> {
-    fn put(self, html: &mut Html) {
-        for piece in self.0 {
-            add_piece(html, piece);
-        }
+/// Adds a sentence, part by part.
+pub(crate) fn add_sentence(html: &mut Html, sentence: &[Piece]) {
+    for piece in sentence {
+        add_piece(html, piece);
     }
 }
 
@@ -110,6 +112,8 @@ pub(crate) fn add_sentences(
     end: &'static str,
 ) {
     for sentence in sentences {
-        put!(html; begin, Sentence(sentence), end)
+        html.markup(begin);
+        add_sentence(html, sentence);
+        html.markup(end)
     }
 }

@@ -1,7 +1,6 @@
 //! The style of a page: light and dark by what the reader's system prefers, narrow below 900 units, and on paper.
 
 use crate::html::Html;
-use crate::put;
 
 /// The style of words, of the head and of columns.
 const WORDS_STYLE: &str = "\
@@ -145,5 +144,8 @@ const NARROW_STYLE: &str = "\
 
 /// Adds the style.
 pub(crate) fn add_style(html: &mut Html) {
-    put!(html; WORDS_STYLE, PICTURE_STYLE, LISTING_STYLE, NARROW_STYLE)
+    html.markup(WORDS_STYLE);
+    html.markup(PICTURE_STYLE);
+    html.markup(LISTING_STYLE);
+    html.markup(NARROW_STYLE)
 }

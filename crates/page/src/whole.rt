@@ -2,10 +2,10 @@
 
 use crate::drawing::add_picture;
 use crate::headers::{add_head, add_header};
-use crate::html::{Html, Shown};
+use crate::html::Html;
+use crate::html::Part::{Number, Shown};
 use crate::listings::add_listings;
 use crate::matrices::add_matrix;
-use crate::put;
 use crate::runs::add_run;
 use crate::sheets::{RuleText, Sheet};
 
@@ -14,18 +14,20 @@ fn add_rules(html: &mut Html, rules: &[RuleText]) {
     if rules.is_empty() {
         return;
     }
-    put!(html; "<section id=\"rules\"><h2>Rules that are broken</h2>\n");
+    html.markup("<section id=\"rules\"><h2>Rules that are broken</h2>\n");
     for rule in rules {
-        put!(html; "<p class=\"rule\" id=\"K", rule.number, "\"><b>K", rule.number, ": ", Shown(&rule.name), "</b> ", Shown(&rule.text), "</p>\n")
+        let number = Number(u32::from(rule.number));
+        let parts = [number, number, Shown(&rule.name), Shown(&rule.text)];
+        html.fill("<p class=\"rule\" id=\"K@\"><b>K@: @</b> @</p>\n", &parts)
     }
-    put!(html; "</section>\n")
+    html.markup("</section>\n")
 }
 
 /// Adds the whole page of an answer.
 pub fn add_sheet(html: &mut Html, sheet: &Sheet) {
     add_head(html, &sheet.header);
     add_header(html, sheet);
-    put!(html; "<main>\n");
+    html.markup("<main>\n");
     if let Some(run) = &sheet.run {
         add_run(html, run)
     }
@@ -35,6 +37,9 @@ pub fn add_sheet(html: &mut Html, sheet: &Sheet) {
     }
     add_listings(html, &sheet.programs);
     add_rules(html, &sheet.rules);
-    put!(html; "</main>\n<footer>Written by <code>capwhy page</code>, which nobody has to believe: <code>", Shown(&sheet.command));
-    put!(html; "</code> answers the same.</footer>\n</body></html>\n")
+    html.show(
+        "</main>\n<footer>Written by <code>capwhy page</code>, which nobody has to believe: <code>@</code> answers the same.</footer>\n\
+        </body></html>\n",
+        &sheet.command,
+    )
 }

@@ -3,10 +3,8 @@
 ghost use Rattle.std.specs.Prelude.{◌≡◌, ◌<◌, ◌≤◌, All, IfOk, IfSome};
 
 use crate::arrivals::Arrivals;
-use crate::html::{Html, Put};
 use crate::lanes::Classes;
 use crate::pictures::Target;
-use crate::put;
 use crate::sentences::Tone;
 use crate::stops::Stops;
 
@@ -15,13 +13,6 @@ use crate::stops::Stops;
 pub struct Point {
     pub x: u32,
     pub y: u32,
-}
-
-/// Its two numbers.
-impl Put for Point {
-    fn put(self, html: &mut Html) {
-        put!(html; self.x, " ", self.y)
-    }
 }
 
 /// A wire from one point to another by a lane.
@@ -71,7 +62,7 @@ impl Lanes {
         if lane >= count {
             return None;
         }
-        self.pairs.items.get(count - 1 - lane).copied()
+        Some(self.pairs.items[count - 1 - lane])
     }
 
     /// Where the lane of a panel stands: on a wide picture the first panel's is the last, on a narrow one the first.
@@ -83,12 +74,10 @@ impl Lanes {
         if place >= count {
             return None;
         }
-        let lane = if self.is_wide {
-            count - 1 - place
-        } else {
-            place
-        };
-        self.panels.items.get(lane).copied()
+        if self.is_wide {
+            return Some(self.panels.items[count - 1 - place]);
+        }
+        Some(self.panels.items[place])
     }
 }
 

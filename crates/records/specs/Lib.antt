@@ -13,5 +13,6 @@ pub mod QuotedViews
 pub mod BindingViews
 pub mod FaultViews
 pub mod CallsViews
+pub mod CountViews
 pub mod Accounts
 pub mod GivenViews

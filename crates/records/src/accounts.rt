@@ -1,6 +1,6 @@
 //! Which lines of a record its entries account for.
 
-ghost use Rattle.std.specs.Prelude.{◌≡◌, ◌∷◌, [], ◌++◌, ◌+◌, ◌<◌, ◌^◌, ◌&&◌, ◌||◌, ◌==◌, ℕ, IfOk, OnOk, false, length, nat_lt, slice_index_or};
+ghost use Rattle.std.specs.Prelude.{◌≡◌, ◌+◌, ◌<◌, ◌^◌, ◌&&◌, ◌||◌, ◌==◌, ℕ, IfOk, OnOk, false, length, nat_lt, slice_index_or};
 ghost use Rattle.std.proofs.Math.Bool.{not};
 ghost use Rattle.records.specs.Accounts.{is_end_of, is_in_lists, is_line_of, ListTheOthers};
 ghost use Rattle.records.specs.EntryViews.{calls_seen};
@@ -81,14 +81,6 @@ fn is_marked(marks: &[bool], line: u32) -> bool
     at < marks.len() && marks[at]
 }
 
-/// Adds a line's number.
-fn add_line(lines: &mut Vec<u32>, number: u32) -> Result<(), AllocError>
-    ensures { OnOk result (lines.new.items ≡ lines.old.items ++ number ∷ []) }
-{
-    lines.push(number)?;
-    Ok(())
-}
-
 impl Accounts {
     /// Lists a line of this number.
     fn list(&mut self, number: u32, is_silent: bool) -> Result<(), AllocError>
@@ -96,9 +88,11 @@ impl Accounts {
             ≡ (is_in_lists line self.old.misread.items self.old.silent.items || (number == line))) }
     {
         if is_silent {
-            add_line(&mut self.silent, number)
+            self.silent.push(number)?;
+            Ok(())
         } else {
-            add_line(&mut self.misread, number)
+            self.misread.push(number)?;
+            Ok(())
         }
     }
 }

@@ -28,31 +28,15 @@ struct Depth {
     last: u8,
 }
 
+/// That of the first byte.
+const TOP: Depth = Depth {
+    brackets: 0,
+    notes: 0,
+    place: Place::Plain,
+    last: b' ',
+};
+
 impl Depth {
-    /// That of the first byte.
-    fn first() -> Depth {
-        Depth {
-            brackets: 0,
-            notes: 0,
-            place: Place::Plain,
-            last: b' ',
-        }
-    }
-
-    /// Whether the byte belongs to no string, bracket or note.
-    fn is_top(self) -> bool {
-        self.brackets == 0 && self.notes == 0 && matches!(self.place, Place::Plain)
-    }
-
-    /// So many brackets, behind a plain byte outside notes.
-    fn brackets_behind(self, byte: u8) -> usize {
-        match byte {
-            b'(' | b'[' | b'{' => self.brackets.saturating_add(1),
-            b')' | b']' | b'}' => self.brackets.saturating_sub(1),
-            _ => self.brackets,
-        }
-    }
-
     /// So many notes, behind a plain byte. A note begins behind a number or `AT_FDCWD`, but `<<` begins none, and `->` ends none.
     fn notes_behind(self, byte: u8) -> usize {
         let may_begin = self.notes > 0 || self.last.is_ascii_digit() || self.last == b'D';
@@ -77,7 +61,11 @@ impl Depth {
             Place::Plain => {
                 next.notes = self.notes_behind(byte);
                 if self.notes == 0 {
-                    next.brackets = self.brackets_behind(byte);
+                    next.brackets = match byte {
+                        b'(' | b'[' | b'{' => self.brackets.saturating_add(1),
+                        b')' | b']' | b'}' => self.brackets.saturating_sub(1),
+                        _ => self.brackets,
+                    };
                 }
             }
         }
@@ -85,26 +73,20 @@ impl Depth {
     }
 }
 
-/// Where a byte first stands that belongs to no string, bracket or note.
-fn first_at_top(text: &[u8], sought: u8) -> Option<usize>
+/// Where a byte first stands that belongs to no string, bracket or note: a comma behind an argument, or the bracket that closes all.
+pub(crate) fn first_at_top(text: &[u8], sought: u8) -> Option<usize>
     ensures within { IfSome result (λ at. at < length text.now) }
     ensures there { IfSome result (λ at. slice_index text.now at ≡ sought) }
 {
-    let mut depth = Depth::first();
+    let mut depth = TOP;
     for (at, byte) in text.iter().enumerate() {
-        if *byte == sought && depth.is_top() {
+        let is_plain = matches!(depth.place, Place::Plain);
+        if *byte == sought && depth.brackets == 0 && depth.notes == 0 && is_plain {
             return Some(at);
         }
         depth = depth.behind(*byte);
     }
     None
-}
-
-/// Where the bracket stands that closes a call's arguments.
-pub(crate) fn close_of(text: &[u8]) -> Option<usize>
-    ensures { IfSome result (λ at. at < length text.now) }
-{
-    first_at_top(text, b')')
 }
 
 /// The arguments of a call: the parts between the commas that stand in no string, bracket or note. With the commas they are the text.

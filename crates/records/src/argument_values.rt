@@ -111,16 +111,11 @@ pub(crate) fn behind<'t>(text: &'t [u8], bytes: &[u8]) -> Option<&'t [u8]> {
     None
 }
 
-/// Whether a byte may stand in a word of flags.
-fn is_word_byte(byte: u8) -> bool {
-    byte.is_ascii_alphanumeric() || byte == b'_'
-}
-
 /// Whether a text has this word, with no letter, digit or `_` on either side.
 pub(crate) fn has_word(text: &[u8], word: &[u8]) -> bool {
     let mut start = 0;
     for (at, byte) in text.iter().enumerate() {
-        if !is_word_byte(*byte) {
+        if !byte.is_ascii_alphanumeric() && *byte != b'_' {
             if same_bytes(&text[start..at], word) {
                 return true;
             }
@@ -160,11 +155,6 @@ pub(crate) fn place_note(note: &[u8]) -> Option<&[u8]> {
         }
         _ => None,
     }
-}
-
-/// Whether a note tells a device.
-pub(crate) fn is_device(note: &[u8]) -> bool {
-    behind(note, b"<char ").is_some() || behind(note, b"<block ").is_some()
 }
 
 /// The number of a socket's end in a note such as `UNIX-STREAM:[42->43]`, if 32 bits hold it.

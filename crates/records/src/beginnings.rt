@@ -10,9 +10,7 @@ fn children(alloc: Global, entries: &[Entry]) -> Result<Vec<u32>, Memory> {
     for entry in entries {
         if let Event::Called(call) = &entry.event {
             if let (Call::Fork, Outcome::Success(child)) = (call.call, call.outcome) {
-                if made.push(child).is_err() {
-                    return Err(Memory);
-                }
+                made.push(child)?;
             }
         }
     }
@@ -25,8 +23,8 @@ fn others(alloc: Global, entries: &[Entry], made: &[u32]) -> Result<Vec<u32>, Me
     for entry in entries {
         let is_counted = !matches!(entry.event, Event::Omitted(_));
         let is_known = made.contains(&entry.process) || first.contains(&entry.process);
-        if is_counted && !is_known && first.push(entry.process).is_err() {
-            return Err(Memory);
+        if is_counted && !is_known {
+            first.push(entry.process)?;
         }
     }
     Ok(first)

@@ -4,8 +4,7 @@ ghost use Rattle.std.specs.Prelude.{◌≡◌, option_map};
 ghost use Rattle.rights.specs.Views.{side_seen};
 ghost use Rattle.records.specs.BindingViews.{Steps, awaited_seen, bound_seen};
 ghost use Rattle.records.specs.ReadingViews.{Reads};
-ghost use Rattle.records.specs.Readings as readings;
-ghost use Rattle.records.specs.Readings.{Next, What, bindings_of, descriptor_of_word, end_side_of_word, binding_step};
+ghost use Rattle.records.specs.Readings.{Next, What, bindings_of, end_side_of_word, binding_step};
 
 use crate::entries::Binding;
 use crate::faults::LineFault;
@@ -47,16 +46,6 @@ pub(crate) struct Bound {
     pub bytes: Option<u32>,
 }
 
-/// The descriptor behind `@`.
-fn descriptor_of(word: &[u8]) -> Result<u32, LineFault>
-    ensures { Reads (λ descriptor. descriptor) result (descriptor_of_word word.now) }
-{
-    match word {
-        [b'@', digits @ ..] => number(digits),
-        _ => Err(LineFault::Form),
-    }
-}
-
 /// The side of a pair.
 fn side_of(word: &[u8]) -> Result<Side, LineFault>
     ensures { Reads side_seen result (end_side_of_word word.now) }
@@ -70,15 +59,16 @@ fn side_of(word: &[u8]) -> Result<Side, LineFault>
     }
 }
 
-/// What a word does where a binding may begin.
+/// What a word does where a binding may begin: a descriptor stands behind `@`.
 #[tactic(auto, unfolding(crate::specs::Readings::binding_step))]
 fn next_step(word: &[u8]) -> Result<Step, LineFault>
     ensures { Steps result (binding_step Next word.now) }
 {
-    if same_bytes(word, b"bytes") {
-        return Ok(Step::Awaits(Awaited::Amount));
+    match word {
+        [b'@', digits @ ..] => Ok(Step::Awaits(Awaited::What(number(digits)?))),
+        _ if same_bytes(word, b"bytes") => Ok(Step::Awaits(Awaited::Amount)),
+        _ => Err(LineFault::Form),
     }
-    Ok(Step::Awaits(Awaited::What(descriptor_of(word)?)))
 }
 
 /// What a word does that says what this descriptor is.
@@ -93,19 +83,6 @@ fn what_step(alloc: Global, descriptor: u32, word: &[u8]) -> Result<Step, LineFa
     Ok(Step::Binds(Binding::Place { descriptor, place }))
 }
 
-/// What a word does that says the side of a pair.
-#[tactic(auto, unfolding(crate::specs::Readings::binding_step))]
-fn side_step(descriptor: u32, pair: u32, word: &[u8]) -> Result<Step, LineFault>
-    ensures { Steps result (binding_step (readings.Side descriptor pair) word.now) }
-{
-    let side = side_of(word)?;
-    Ok(Step::Binds(Binding::End {
-        descriptor,
-        pair,
-        side,
-    }))
-}
-
 /// What the next word does.
 #[tactic(auto, unfolding(crate::specs::Readings::binding_step))]
 fn step_of(alloc: Global, awaited: Awaited, word: &[u8]) -> Result<Step, LineFault>
@@ -115,7 +92,11 @@ fn step_of(alloc: Global, awaited: Awaited, word: &[u8]) -> Result<Step, LineFau
         Awaited::Next => next_step(word),
         Awaited::What(descriptor) => what_step(alloc, descriptor, word),
         Awaited::Pair(descriptor) => Ok(Step::Awaits(Awaited::Side(descriptor, number(word)?))),
-        Awaited::Side(descriptor, pair) => side_step(descriptor, pair, word),
+        Awaited::Side(descriptor, pair) => Ok(Step::Binds(Binding::End {
+            descriptor,
+            pair,
+            side: side_of(word)?,
+        })),
         Awaited::Amount => Ok(Step::Awaits(Awaited::Nothing(number(word)?))),
         Awaited::Nothing(_) => Err(LineFault::Form),
     }

@@ -4,7 +4,7 @@ use crate::argument_values::{Mention, has_word};
 use crate::entries::{Outcome, Reason};
 use crate::forms::OnDescriptor;
 use crate::held::MAX_FOLLOWED;
-use crate::limiting::{limit_commands, limit_rights};
+use crate::limiting;
 use crate::other_rights::OtherRight;
 use crate::runs::Run;
 use crate::seen_calls::SeenCall;
@@ -109,13 +109,6 @@ fn add_flags(run: &mut Run, seen: &SeenCall<'_>, mention: Mention<'_>) {
     run.add_on(seen, Call::FcntlGetfl, mention, None, outcome);
 }
 
-/// New flags of a description.
-fn add_new_flags(run: &mut Run, seen: &SeenCall<'_>, mention: Mention<'_>) {
-    let nonblock = seen.has(2, b"O_NONBLOCK") || seen.has(2, b"O_NDELAY");
-    let flags = description_flags(seen.has(2, b"O_APPEND"), nonblock);
-    run.add_with(seen, Call::FcntlSetfl, mention, flags, seen.outcome);
-}
-
 /// Says whether a descriptor is closed where the process goes on as another program.
 fn set_closing(run: &mut Run, seen: &SeenCall<'_>, mention: Mention<'_>, closes_on_exec: bool) {
     run.known
@@ -172,7 +165,11 @@ fn command_among(commands: &[(&[u8], Command)], argument: &[u8]) -> Command {
 fn add_fcntl(run: &mut Run, seen: &SeenCall<'_>, mention: Mention<'_>) {
     match command_among(&COMMANDS, seen.argument(1)) {
         Command::Flags => add_flags(run, seen, mention),
-        Command::NewFlags => add_new_flags(run, seen, mention),
+        Command::NewFlags => {
+            let nonblock = seen.has(2, b"O_NONBLOCK") || seen.has(2, b"O_NDELAY");
+            let flags = description_flags(seen.has(2, b"O_APPEND"), nonblock);
+            run.add_with(seen, Call::FcntlSetfl, mention, flags, seen.outcome);
+        }
         Command::Duplicate => add_duplicate(run, seen, mention, false),
         Command::DuplicateClosing => add_duplicate(run, seen, mention, true),
         Command::Closing => set_closing(run, seen, mention, seen.has(2, b"FD_CLOEXEC")),
@@ -211,7 +208,7 @@ pub(crate) fn take(run: &mut Run, seen: &SeenCall<'_>, form: OnDescriptor) {
         OnDescriptor::CloseRange => add_close_range(run, seen, mention),
         OnDescriptor::Fcntl => add_fcntl(run, seen, mention),
         OnDescriptor::Ioctl => add_ioctl(run, seen, mention),
-        OnDescriptor::LimitRights => limit_rights(run, seen, mention),
-        OnDescriptor::LimitCommands => limit_commands(run, seen, mention),
+        OnDescriptor::LimitRights => limiting::take(run, seen, mention, true),
+        OnDescriptor::LimitCommands => limiting::take(run, seen, mention, false),
     }
 }

@@ -309,20 +309,10 @@ fn form_among(forms: &[(&[u8], Form)], name: &[u8]) -> Option<Form> {
     None
 }
 
-/// What a call is that works on files, descriptors and processes.
-fn call_of(name: &[u8]) -> Option<Form> {
-    form_among(&CALLS, name)
-}
-
-/// What another call is that is known.
-fn other_of(name: &[u8]) -> Option<Form> {
-    form_among(&OTHERS, name)
-}
-
 /// What a call is, by its name.
 pub(crate) fn form_of(name: &[u8]) -> Form {
-    if let Some(form) = call_of(name) {
+    if let Some(form) = form_among(&CALLS, name) {
         return form;
     }
-    other_of(name).unwrap_or(Form::LeftOut(Reason::Name))
+    form_among(&OTHERS, name).unwrap_or(Form::LeftOut(Reason::Name))
 }

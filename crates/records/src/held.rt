@@ -1,7 +1,6 @@
 //! What the numbers of a process stand for, as far as a record tells it.
 
 use rights::Side;
-use std::alloc::{AllocError, Global};
 
 /// How many numbers of a process are followed.
 pub(crate) const MAX_FOLLOWED: u32 = 256;
@@ -29,41 +28,28 @@ pub(crate) struct Held {
 }
 
 /// The descriptors of a process, by their numbers.
-#[derive(Drop)]
+#[derive(Clone, Copy)]
 pub(crate) struct Table {
-    slots: Vec<Option<Held>>,
+    slots: [Option<Held>; MAX_FOLLOWED as usize],
 }
 
+/// No descriptor.
+pub(crate) const NOTHING_HELD: Table = Table {
+    slots: [None; MAX_FOLLOWED as usize],
+};
+
 impl Table {
-    /// No descriptor, of a process that is none.
-    pub(crate) fn empty(alloc: Global) -> Table {
-        Table {
-            slots: Vec::new(alloc),
-        }
-    }
-
     /// Those of a process that begins: 0, 1 and 2 are ends of the world's pair.
-    pub(crate) fn first(alloc: Global) -> Result<Table, AllocError> {
-        let mut table = Table {
-            slots: vec![in alloc; None; MAX_FOLLOWED as usize]?,
-        };
-        for number in 0..3 {
-            table.put(
-                number,
-                Some(Held {
-                    kept: WORLD,
-                    closes_on_exec: false,
-                }),
-            );
-        }
-        Ok(table)
-    }
-
-    /// The same descriptors.
-    pub(crate) fn copy(&self, alloc: Global) -> Result<Table, AllocError> {
-        Ok(Table {
-            slots: Vec::from_slice(alloc, &self.slots)?,
-        })
+    pub(crate) fn first() -> Table {
+        let world = Some(Held {
+            kept: WORLD,
+            closes_on_exec: false,
+        });
+        let mut table = NOTHING_HELD;
+        table.slots[0] = world;
+        table.slots[1] = world;
+        table.slots[2] = world;
+        table
     }
 
     /// The descriptor of a number, if it is known.
@@ -92,13 +78,6 @@ impl Table {
         }
     }
 
-    /// Takes all away.
-    pub(crate) fn clear(&mut self) {
-        for number in 0..MAX_FOLLOWED {
-            self.put(number, None);
-        }
-    }
-
     /// Says whether a descriptor is closed where the process goes on as another program.
     pub(crate) fn set_closing(&mut self, number: u32, closes_on_exec: bool) {
         if let Some(held) = self.get(number) {
@@ -109,14 +88,6 @@ impl Table {
                     closes_on_exec,
                 }),
             );
-        }
-    }
-
-    /// Whether a number is closed where the process goes on as another program.
-    pub(crate) fn is_closing(&self, number: u32) -> bool {
-        match self.get(number) {
-            Some(held) => held.closes_on_exec,
-            None => false,
         }
     }
 

@@ -5,9 +5,9 @@ ghost use Rattle.std.specs.List.{list_all};
 ghost use Rattle.records.specs.Calls.{is_binding};
 ghost use Rattle.records.specs.EntryViews.{binding_seen};
 
-use crate::argument_values::{Mention, is_device, place_note, socket_inode};
+use crate::argument_values::{Mention, behind, place_note, socket_inode};
 use crate::entries::Binding;
-use crate::held::{Held, Kept, Table, WORLD};
+use crate::held::{Held, Kept, WORLD};
 use crate::processes::Process;
 use crate::strings::unescaped;
 use std::alloc::{AllocError, Global};
@@ -18,37 +18,7 @@ use texts::Page;
 const MAX_PLACE: usize = 4096;
 
 /// Up to two descriptors of which a call tells what they are.
-#[derive(Clone, Copy)]
-pub(crate) struct About<'t> {
-    pub first: Option<Mention<'t>>,
-    pub second: Option<Mention<'t>>,
-}
-
-impl<'t> About<'t> {
-    /// No descriptor.
-    pub(crate) fn nothing() -> About<'t> {
-        About {
-            first: None,
-            second: None,
-        }
-    }
-
-    /// This one alone.
-    pub(crate) fn one(mention: Mention<'t>) -> About<'t> {
-        About {
-            first: Some(mention),
-            second: None,
-        }
-    }
-
-    /// This one, and perhaps another one.
-    pub(crate) fn both(first: Mention<'t>, second: Option<Mention<'t>>) -> About<'t> {
-        About {
-            first: Some(first),
-            second,
-        }
-    }
-}
+pub(crate) type About<'t> = [Option<Mention<'t>>; 2];
 
 /// What is known where a process makes a call.
 #[derive(Drop)]
@@ -70,7 +40,7 @@ impl Known {
     pub(crate) fn new(alloc: Global) -> Known {
         Known {
             alloc,
-            process: Process::new(0, Table::empty(alloc)),
+            process: Process::new(0),
             places: Vec::new(alloc),
             pairs: 0,
             ends: BTreeMap::new(alloc),
@@ -160,9 +130,11 @@ impl Known {
 
     /// Takes a number of the world's pair for the node that its note tells, since it has an offset.
     pub(crate) fn take_for_file(&mut self, mention: Mention<'_>) {
+        let note = mention.note;
         let is_world = matches!(self.process.table.kept(mention.number), Kept::End(0, _));
-        if is_world && place_note(mention.note).is_some() && !is_device(mention.note) {
-            let kept = self.kept_of_note(mention.note);
+        let is_device = behind(note, b"<char ").is_some() || behind(note, b"<block ").is_some();
+        if is_world && place_note(note).is_some() && !is_device {
+            let kept = self.kept_of_note(note);
             self.hold(mention.number, kept, false);
         }
     }
@@ -219,8 +191,8 @@ impl Known {
         ensures { IfOk result (λ bindings. list_all is_binding (map binding_seen bindings.items) ≡ true) }
     {
         let mut bindings = Vec::new(self.alloc);
-        self.bind(&mut bindings, about.first)?;
-        self.bind(&mut bindings, about.second)?;
+        self.bind(&mut bindings, about[0])?;
+        self.bind(&mut bindings, about[1])?;
         Ok(bindings)
     }
 }

@@ -2,7 +2,6 @@
 
 use crate::argument_values::Mention;
 use crate::entries::Reason;
-use crate::known::About;
 use crate::real_calls::Given;
 use crate::runs::Run;
 use crate::seen_calls::SeenCall;
@@ -58,36 +57,19 @@ fn listed(alloc: Global, argument: &[u8], beginning: &[u8]) -> Option<Page> {
     Some(page)
 }
 
-/// Takes a limit of the rights of a descriptor.
-pub(crate) fn limit_rights(run: &mut Run, seen: &SeenCall<'_>, mention: Mention<'_>) {
-    match listed(run.known.alloc, seen.argument(1), b"CAP_") {
-        Some(names) => {
-            let given = [Given::Number(mention.number), Given::Rights(&names)];
-            run.add(
-                seen,
-                Call::CapRightsLimit,
-                &given,
-                seen.outcome,
-                About::one(mention),
-            );
-        }
-        None => run.omit(seen, Reason::Unknown),
-    }
-}
-
-/// Takes a limit of the fcntl commands of a descriptor.
-pub(crate) fn limit_commands(run: &mut Run, seen: &SeenCall<'_>, mention: Mention<'_>) {
-    match listed(run.known.alloc, seen.argument(1), b"CAP_FCNTL_") {
-        Some(names) => {
-            let given = [Given::Number(mention.number), Given::Commands(&names)];
-            run.add(
-                seen,
-                Call::CapFcntlsLimit,
-                &given,
-                seen.outcome,
-                About::one(mention),
-            );
-        }
-        None => run.omit(seen, Reason::Unknown),
+/// Takes a limit of the rights of a descriptor, or of its fcntl commands.
+pub(crate) fn take(run: &mut Run, seen: &SeenCall<'_>, mention: Mention<'_>, of_rights: bool) {
+    let beginning: &[u8] = if of_rights { b"CAP_" } else { b"CAP_FCNTL_" };
+    let Some(names) = listed(run.known.alloc, seen.argument(1), beginning) else {
+        return run.omit(seen, Reason::Unknown);
+    };
+    let number = Given::Number(mention.number);
+    let about = [Some(mention), None];
+    if of_rights {
+        let given = [number, Given::Rights(&names)];
+        run.add(seen, Call::CapRightsLimit, &given, seen.outcome, about);
+    } else {
+        let given = [number, Given::Commands(&names)];
+        run.add(seen, Call::CapFcntlsLimit, &given, seen.outcome, about);
     }
 }

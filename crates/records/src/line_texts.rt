@@ -4,7 +4,6 @@ ghost use Rattle.std.specs.Prelude.{◌≡◌, map, option_map};
 ghost use Rattle.std.specs.List.{flat_map};
 ghost use Rattle.texts.specs.PageViews.{Adds};
 ghost use Rattle.rights.specs.Views.{side_seen};
-ghost use Rattle.records.specs.Calls.{Is_end, Is_place};
 ghost use Rattle.records.specs.EntryViews.{binding_seen, record_entry_seen, event_seen, left_out_seen, made_seen, outcome_seen, wanted_seen};
 ghost use Rattle.records.specs.OperandViews.{operand_seen};
 ghost use Rattle.records.specs.Texts.{amount_words, binding_words, line_with_feed, entry_text, event_words, left_out_words};
@@ -63,14 +62,6 @@ fn add_outcome(page: &mut Page, outcome: Outcome)
     }
 }
 
-/// Adds that a descriptor is of a place, each word behind a space.
-fn add_place(page: &mut Page, descriptor: u32, place: &[u8])
-    ensures { Adds page.old page.new (behind_spaces (binding_words (Is_place descriptor place.now))) }
-{
-    say!(page; " @", descriptor, " ");
-    add_quoted(page, place);
-}
-
 /// The letter of a side.
 fn side_name(side: Side) -> &'static str
     ensures { result.now ≡ end_side_word (side_seen side) }
@@ -81,24 +72,20 @@ fn side_name(side: Side) -> &'static str
     }
 }
 
-/// Adds that a descriptor is an end of a pair, each word behind a space.
-fn add_end(page: &mut Page, descriptor: u32, pair: u32, side: Side)
-    ensures { Adds page.old page.new (behind_spaces (binding_words (Is_end descriptor pair (side_seen side)))) }
-{
-    say!(page; " @", descriptor, " sock ", pair, " ", side_name(side));
-}
-
 /// Adds what a descriptor is, each word behind a space.
 fn add_binding(page: &mut Page, binding: &Binding)
     ensures { Adds page.old page.new (behind_spaces (binding_words (binding_seen binding.now))) }
 {
     match binding {
-        Binding::Place { descriptor, place } => add_place(page, *descriptor, place),
+        Binding::Place { descriptor, place } => {
+            say!(page; " @", *descriptor, " ");
+            add_quoted(page, place);
+        }
         Binding::End {
             descriptor,
             pair,
             side,
-        } => add_end(page, *descriptor, *pair, *side),
+        } => say!(page; " @", *descriptor, " sock ", *pair, " ", side_name(*side)),
     }
 }
 

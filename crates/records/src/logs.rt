@@ -107,23 +107,15 @@ impl Log {
         }
     }
 
-    /// Adds an entry, if there is memory for it.
-    fn push(&mut self, entry: Entry)
-        requires { is_entry (record_entry_seen entry) ≡ true }
-    {
-        if self.entries.push(entry).is_err() {
-            self.is_short = true;
-        }
-    }
-
-    /// Adds what happened, if there was memory for it.
+    /// Adds what happened, if there was and is memory for it.
     pub(crate) fn add(&mut self, when: When, event: Result<Event, AllocError>)
         requires { IfOk event (λ event. is_event (event_seen event) ≡ true) }
     {
-        match event {
-            Ok(event) => self.push(when.entry(event)),
-            Err(_) => self.is_short = true,
-        }
+        let is_added = match event {
+            Ok(event) => self.entries.push(when.entry(event)).is_ok(),
+            Err(_) => false,
+        };
+        self.is_short = self.is_short || !is_added;
     }
 
     /// The entries, if there was memory for all of them.

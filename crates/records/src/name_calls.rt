@@ -7,7 +7,6 @@ ghost use Rattle.records.specs.Calls.{A_number, A_path, operand_kinds};
 use crate::argument_values::{Mention, has_word, here_note};
 use crate::entries::{Outcome, Reason};
 use crate::forms::OnName;
-use crate::known::About;
 use crate::real_calls::Given;
 use crate::runs::Run;
 use crate::seen_calls::SeenCall;
@@ -38,10 +37,10 @@ fn add_at(run: &mut Run, seen: &SeenCall<'_>, call: Call, beneath: Call, target:
 {
     let path = Given::Path(&target.path);
     match target.base {
-        None => run.add(seen, call, &[path], seen.outcome, About::nothing()),
+        None => run.add(seen, call, &[path], seen.outcome, [None, None]),
         Some(base) => {
             let given = [Given::Number(base.number), path];
-            run.add(seen, beneath, &given, seen.outcome, About::one(base));
+            run.add(seen, beneath, &given, seen.outcome, [Some(base), None]);
         }
     }
 }
@@ -66,11 +65,11 @@ fn add_removal(run: &mut Run, seen: &SeenCall<'_>, target: &Target<'_>, director
             Call::Unlink,
             &[path, directory],
             outcome,
-            About::nothing(),
+            [None, None],
         );
     };
     let given = [Given::Number(base.number), path, directory];
-    run.add(seen, Call::Unlinkat, &given, outcome, About::one(base));
+    run.add(seen, Call::Unlinkat, &given, outcome, [Some(base), None]);
 }
 
 /// The path of a place from the first directory: `.` is that directory itself.
@@ -118,13 +117,7 @@ fn add_rename<'p>(
         Some(to)
     };
     let outcome = removal_outcome(seen, true);
-    run.add(
-        seen,
-        Call::Renameat,
-        &given,
-        outcome,
-        About::both(from, other),
-    );
+    run.add(seen, Call::Renameat, &given, outcome, [Some(from), other]);
 }
 
 /// A rename of what stands at one name to another name.

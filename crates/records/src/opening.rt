@@ -4,7 +4,6 @@ use crate::argument_values::has_word;
 use crate::entries::{Outcome, Reason};
 use crate::forms::Opening;
 use crate::held::Kept;
-use crate::known::About;
 use crate::real_calls::Given;
 use crate::runs::Run;
 use crate::seen_calls::SeenCall;
@@ -67,10 +66,7 @@ fn add_open(
 ) {
     let path = Given::Path(&target.path);
     let flags = Given::Flags(flags);
-    let about = About {
-        first: target.base,
-        second: seen.made,
-    };
+    let about = [target.base, seen.made];
     match target.base {
         None => run.add(seen, Call::Open, &[path, flags], outcome, about),
         Some(base) => {

@@ -8,7 +8,7 @@ ghost use Rattle.records.specs.OperandViews.{kind_seen};
 use rights::{Call, Fcntls, OpenFlags, Rights};
 
 /// The kind of an operand.
-#[derive(Clone, Copy, PartialEq, Eq)]
+#[derive(Clone, Copy)]
 pub enum Kind {
     Number,
     Path,

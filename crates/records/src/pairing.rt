@@ -3,7 +3,6 @@
 use crate::argument_values::{Mention, closes_on_exec, first_listed, next_listed};
 use crate::entries::{Outcome, Reason};
 use crate::held::{Kept, WORLD};
-use crate::known::About;
 use crate::other_rights::OtherRight;
 use crate::runs::Run;
 use crate::seen_calls::SeenCall;
@@ -33,7 +32,7 @@ fn add_pair(run: &mut Run, seen: &SeenCall<'_>, first: Mention<'_>, second: Ment
     hold_end(run, first, Kept::End(pair, Side::A), closes_on_exec);
     hold_end(run, second, Kept::End(pair, Side::B), closes_on_exec);
     let outcome = Some(Outcome::Success(first.number));
-    let about = About::both(first, Some(second));
+    let about = [Some(first), Some(second)];
     run.add(seen, Call::Socketpair, &[], outcome, about);
     if seen.has(FLAGS, b"SOCK_NONBLOCK") || seen.has(FLAGS, b"O_NONBLOCK") {
         add_nonblock(run, seen, first);

@@ -16,32 +16,18 @@ pub(crate) fn is_thread(arguments: &[u8]) -> bool {
     has_word(arguments, b"CLONE_THREAD") || has_word(arguments, b"CLONE_FILES")
 }
 
-/// A fork, or a new thread.
-fn add_fork(run: &mut Run, seen: &SeenCall<'_>) {
-    if is_thread(seen.text) {
-        return run.omit(seen, Reason::Quiet);
-    }
-    run.add_alone(seen, Call::Fork, seen.outcome);
-}
-
 /// The going on as another program: what is close-on-exec is closed, and the loader begins.
 fn add_execute(run: &mut Run, seen: &SeenCall<'_>) {
     if seen.succeeds() {
         for number in 0..MAX_FOLLOWED {
-            if run.known.process.table.is_closing(number) {
+            let held = run.known.process.table.get(number);
+            if matches!(held, Some(held) if held.closes_on_exec) {
                 add_silent_close(run, seen, number);
             }
         }
         run.known.process.is_loading = true;
     }
     run.omit(seen, Reason::Global);
-}
-
-/// The end of a process, once.
-fn add_end(run: &mut Run, seen: &SeenCall<'_>) {
-    if !run.end(seen.when) {
-        run.omit(seen, Reason::Quiet);
-    }
 }
 
 /// A new current directory, or a new root directory, by its name.
@@ -60,15 +46,6 @@ fn change(run: &mut Run, seen: &SeenCall<'_>, is_root: bool) {
     run.omit(seen, Reason::Global);
 }
 
-/// A new current directory, by its descriptor.
-fn change_directory_to(run: &mut Run, seen: &SeenCall<'_>) {
-    let mention = seen.mention(0);
-    if let (Some(mention), true) = (mention, seen.succeeds()) {
-        run.known.process.directory = run.known.kept_of(mention);
-    }
-    run.want(seen, OtherRight::Fchdir, mention);
-}
-
 /// What asking for the mode came to: it stands in brackets.
 fn mode_outcome(seen: &SeenCall<'_>) -> Option<Outcome> {
     if !seen.succeeds() {
@@ -85,13 +62,26 @@ fn mode_outcome(seen: &SeenCall<'_>) -> Option<Outcome> {
 /// Takes a call that works on a process.
 pub(crate) fn take(run: &mut Run, seen: &SeenCall<'_>, form: OnProcess) {
     match form {
-        OnProcess::Fork => add_fork(run, seen),
+        OnProcess::Fork if is_thread(seen.text) => run.omit(seen, Reason::Quiet),
+        OnProcess::Fork => run.add_alone(seen, Call::Fork, seen.outcome),
         OnProcess::Execute => add_execute(run, seen),
-        OnProcess::End => add_end(run, seen),
-        OnProcess::EndThread if run.known.process.leader == seen.thread => add_end(run, seen),
-        OnProcess::EndThread => run.omit(seen, Reason::Quiet),
+        OnProcess::EndThread if run.known.process.leader != seen.thread => {
+            run.omit(seen, Reason::Quiet)
+        }
+        // A process ends once.
+        OnProcess::End | OnProcess::EndThread => {
+            if !run.end(seen.when) {
+                run.omit(seen, Reason::Quiet);
+            }
+        }
         OnProcess::ChangeDirectory => change(run, seen, false),
-        OnProcess::ChangeDirectoryTo => change_directory_to(run, seen),
+        OnProcess::ChangeDirectoryTo => {
+            let mention = seen.mention(0);
+            if let (Some(mention), true) = (mention, seen.succeeds()) {
+                run.known.process.directory = run.known.kept_of(mention);
+            }
+            run.want(seen, OtherRight::Fchdir, mention);
+        }
         OnProcess::ChangeRoot => change(run, seen, true),
         OnProcess::EnterMode => run.add_alone(seen, Call::CapEnter, seen.outcome),
         OnProcess::GetMode => run.add_alone(seen, Call::CapGetmode, mode_outcome(seen)),

@@ -1,12 +1,12 @@
 //! The processes of a record, with what is known of each.
 
-use crate::held::{Kept, Table};
-use std::alloc::{AllocError, Global};
+use crate::held::{Kept, NOTHING_HELD, Table};
+use std::alloc::Global;
 use std::collections::BTreeMap;
 use std::mem;
 
 /// A process.
-#[derive(Drop)]
+#[derive(Clone, Copy)]
 pub(crate) struct Process {
     /// Its number in the record: 0 where the record had none when it began.
     pub number: u32,
@@ -23,14 +23,14 @@ pub(crate) struct Process {
 }
 
 impl Process {
-    /// A process of which nothing is known but its number and its descriptors.
-    pub(crate) fn new(number: u32, table: Table) -> Process {
+    /// A process of which nothing is known but its number.
+    pub(crate) fn new(number: u32) -> Process {
         Process {
             number,
             leader: number,
             directory: Kept::Unknown,
             root: Kept::Unknown,
-            table,
+            table: Table::first(),
             is_loading: false,
             has_ended: false,
         }
@@ -42,7 +42,7 @@ impl Process {
             return false;
         }
         self.has_ended = true;
-        self.table.clear();
+        self.table = NOTHING_HELD;
         true
     }
 }
@@ -50,7 +50,6 @@ impl Process {
 /// The processes, in the order in which they began.
 #[derive(Drop)]
 pub(crate) struct Processes {
-    alloc: Global,
     processes: Vec<Process>,
     /// Which process a thread is of.
     threads: BTreeMap<u32, usize>,
@@ -62,7 +61,6 @@ impl Processes {
     /// No process.
     pub(crate) fn new(alloc: Global) -> Processes {
         Processes {
-            alloc,
             processes: Vec::new(alloc),
             threads: BTreeMap::new(alloc),
             is_short: false,
@@ -98,43 +96,13 @@ impl Processes {
     }
 
     /// Adds a process: the index that it has, if there was memory for it.
-    fn add(&mut self, process: Process) -> usize {
+    pub(crate) fn add(&mut self, process: Process) -> usize {
         let index = self.processes.len();
         self.add_thread(index, process.number);
         if self.processes.push(process).is_err() {
             self.is_short = true;
         }
         index
-    }
-
-    /// The descriptors of a process, if there was memory for them.
-    fn table(&mut self, table: Result<Table, AllocError>) -> Table {
-        match table {
-            Ok(table) => table,
-            Err(_) => {
-                self.is_short = true;
-                Table::empty(self.alloc)
-            }
-        }
-    }
-
-    /// A process of which nothing is known but its number.
-    pub(crate) fn begin(&mut self, number: u32) -> usize {
-        let table = self.table(Table::first(self.alloc));
-        self.add(Process::new(number, table))
-    }
-
-    /// Begins the child of a process, with a copy of what it has.
-    fn fork(&mut self, parent: usize, number: u32) {
-        let Some(from) = self.processes.get(parent) else {
-            return;
-        };
-        let (directory, root) = (from.directory, from.root);
-        let table = from.table.copy(self.alloc);
-        let mut child = Process::new(number, self.table(table));
-        child.directory = directory;
-        child.root = root;
-        self.add(child);
     }
 
     /// Says that a thread is of a process.
@@ -144,16 +112,22 @@ impl Processes {
         }
     }
 
-    /// Makes known what a process has made: a thread or a child, if it isn't known already.
+    /// Makes known what a process has made: a thread, or a child with a copy of what the process has, if it isn't known already.
     pub(crate) fn begin_child(&mut self, parent: usize, child: u32, is_thread: bool) {
-        if self.find_going_on(child).is_some() {
+        if parent >= self.processes.len() || self.find_going_on(child).is_some() {
             return;
         }
         if is_thread {
-            self.add_thread(parent, child);
-        } else {
-            self.fork(parent, child);
+            return self.add_thread(parent, child);
         }
+        let process = Process {
+            number: child,
+            leader: child,
+            is_loading: false,
+            has_ended: false,
+            ..self.processes[parent]
+        };
+        self.add(process);
     }
 
     /// The number of a process.

@@ -7,13 +7,14 @@ ghost use Rattle.records.specs.EntryViews.{calls_seen};
 use crate::argument_parts::arguments;
 use crate::entries::{Entry, Event, Reason};
 use crate::forms::{Form, OnProcess, form_of};
-use crate::logs::{CallName, When};
+use crate::known::Known;
+use crate::logs::{CallName, Log, When};
 use crate::process_calls::is_thread;
-use crate::processes::Processes;
+use crate::processes::{Process, Processes};
 use crate::runs::Run;
 use crate::seen_calls::SeenCall;
 use crate::strace::{StraceLine, Told};
-use crate::strace_results::{Answer, CallResult};
+use crate::strace_results::{Answer, CallResult, UNTOLD};
 use crate::strace_texts::same_bytes;
 use crate::taken_calls;
 use std::alloc::{AllocError, Global};
@@ -50,19 +51,15 @@ pub(crate) struct Reader<'t> {
     unnamed: u32,
 }
 
-/// What a call came to of which nothing is told.
-const UNTOLD: CallResult<'static> = CallResult {
-    answer: Answer::Unknown,
-    note: None,
-    error: None,
-};
-
 impl<'t> Reader<'t> {
     /// Before the first line.
     pub(crate) fn new(alloc: Global) -> Reader<'t> {
         Reader {
             alloc,
-            run: Run::new(alloc),
+            run: Run {
+                log: Log::new(alloc),
+                known: Known::new(alloc),
+            },
             processes: Processes::new(alloc),
             begun: BTreeMap::new(alloc),
             forks: Vec::new(alloc),
@@ -110,19 +107,15 @@ impl<'t> Reader<'t> {
         match (self.processes.find(thread), self.processes.find(0)) {
             (Some(process), _) => process,
             (None, Some(process)) if self.unnamed == 0 => {
-                self.take_for_unnamed(process, thread);
+                // It goes on with the call that began in those lines.
+                self.processes.take_for_leader(process, thread);
+                self.unnamed = thread;
+                if let Some(begun) = self.begun.remove(&0) {
+                    self.set_begun(thread, begun);
+                }
                 process
             }
-            _ => self.processes.begin(thread),
-        }
-    }
-
-    /// Takes a thread for the one of the lines before, which told none: it goes on with the call that began there.
-    fn take_for_unnamed(&mut self, process: usize, thread: u32) {
-        self.processes.take_for_leader(process, thread);
-        self.unnamed = thread;
-        if let Some(begun) = self.begun.remove(&0) {
-            self.set_begun(thread, begun);
+            _ => self.processes.add(Process::new(thread)),
         }
     }
 
@@ -148,15 +141,6 @@ impl<'t> Reader<'t> {
         Some(process)
     }
 
-    /// Takes a call of a process.
-    fn take_seen(&mut self, process: usize, seen: &SeenCall<'_>) {
-        self.processes
-            .exchange(process, &mut self.run.known.process);
-        taken_calls::take(&mut self.run, seen);
-        self.processes
-            .exchange(process, &mut self.run.known.process);
-    }
-
     /// Takes a call of a thread that began at a line and ends at another.
     fn take_call(
         &mut self,
@@ -172,7 +156,11 @@ impl<'t> Reader<'t> {
         match arguments(self.alloc, text) {
             Ok(parts) => {
                 let seen = SeenCall::new(when, thread, name, text, &parts, returned);
-                self.take_seen(process, &seen);
+                self.processes
+                    .exchange(process, &mut self.run.known.process);
+                taken_calls::take(&mut self.run, &seen);
+                self.processes
+                    .exchange(process, &mut self.run.known.process);
             }
             Err(_) => self.processes.is_short = true,
         }
@@ -262,13 +250,6 @@ impl<'t> Reader<'t> {
         }
     }
 
-    /// Takes that a thread goes on with the call that another one began.
-    fn supersede(&mut self, thread: u32, other: u32) {
-        if let Some(begun) = self.begun.remove(&other) {
-            self.go_on_with(thread, begun);
-        }
-    }
-
     /// Takes a line. One that fits no call that has begun, or isn't understood, gives nothing.
     pub(crate) fn take(&mut self, number: u32, line: &StraceLine<'t>) {
         let thread = line.process.unwrap_or(self.unnamed);
@@ -289,25 +270,25 @@ impl<'t> Reader<'t> {
                 returned,
             } => self.resume(number, thread, name, arguments, returned),
             Told::Exited(_) | Told::Killed(_) => self.end(number, thread),
-            Told::Superseded(other) => self.supersede(thread, other),
+            // The thread goes on with the call that another one began.
+            Told::Superseded(other) => {
+                if let Some(begun) = self.begun.remove(&other) {
+                    self.go_on_with(thread, begun);
+                }
+            }
             _ => {}
         }
     }
 
-    /// Gives up the calls that haven't ended, behind the last line.
-    fn give_up_all(&mut self) {
+    /// The entries, behind the last line, if there was memory for all that should be known. Calls that haven't ended are given up.
+    pub(crate) fn finish(mut self) -> Result<Vec<Entry>, AllocError>
+        ensures { IfOk result (λ entries. are_calls (calls_seen entries.items) ≡ true) }
+    {
         let none = BTreeMap::new(self.alloc);
         let left = mem::replace(&mut self.begun, none);
         for (thread, begun) in left {
             self.give_up(thread, begun);
         }
-    }
-
-    /// The entries, behind the last line, if there was memory for all that should be known.
-    pub(crate) fn finish(mut self) -> Result<Vec<Entry>, AllocError>
-        ensures { IfOk result (λ entries. are_calls (calls_seen entries.items) ≡ true) }
-    {
-        self.give_up_all();
         if self.processes.is_short {
             return Err(AllocError);
         }

@@ -3,11 +3,11 @@
 ghost use Rattle.std.specs.Prelude.{◌≡◌, ◌+◌, ◌<◌, ◌^◌, [], IfOk, OnOk, false, if◌then◌else◌, length, true};
 ghost use Rattle.std.specs.Str.{bytes_eq};
 ghost use Rattle.records.specs.EntryViews.{calls_seen, record_entry_seen, event_seen};
-ghost use Rattle.records.specs.Calls.{Ended, RecordedCalls, are_calls};
+ghost use Rattle.records.specs.Calls.{RecordedCalls, are_calls};
 ghost use Rattle.records.specs.CallsViews.{FailsCalls, ReadsCalls};
 ghost use Rattle.records.specs.ReadingViews.{Reads, Tests};
 ghost use Rattle.records.specs.Readings.{Form, NoEnd, calls_behind, calls_of_lines, calls_of_text, ends_behind, entry_of_text, entry_of_words, faulty};
-ghost use Rattle.records.specs.Readings.{is_counts_line, read_last, recorded_event_of, with_no_more};
+ghost use Rattle.records.specs.Readings.{is_counts_line, read_last, recorded_event_of};
 ghost use Rattle.records.specs.Texts.{calls_text, counts_line, entry_text};
 
 use crate::entries::{Entry, Event};
@@ -21,17 +21,6 @@ use crate::writing::add_end;
 use std::alloc::Global;
 use texts::{Lines, Page};
 
-/// The end of a process, if no word is left.
-fn end_of_process(words: &Rest<'_>) -> Result<Event, LineFault>
-    ensures { Reads event_seen result (with_no_more Ended words.now) }
-{
-    if words.is_done() {
-        Ok(Event::Ended)
-    } else {
-        Err(LineFault::Form)
-    }
-}
-
 /// The words behind the number of a process.
 #[tactic(auto, unfolding(crate::specs::Readings::recorded_event_of))]
 fn read_event(alloc: Global, mut words: Rest<'_>) -> Result<Event, LineFault>
@@ -44,7 +33,11 @@ fn read_event(alloc: Global, mut words: Rest<'_>) -> Result<Event, LineFault>
         return read_left_out(alloc, words);
     }
     if same_bytes(word, b"exit") {
-        return end_of_process(&words);
+        return if words.is_done() {
+            Ok(Event::Ended)
+        } else {
+            Err(LineFault::Form)
+        };
     }
     read_made(alloc, find_call(word)?, words)
 }

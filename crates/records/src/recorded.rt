@@ -34,20 +34,6 @@ fn entries_of(alloc: Global, lines: &[StraceLine<'_>]) -> Result<Vec<Entry>, All
     reader.finish()
 }
 
-/// What these lines are as calls.
-fn recorded_of(alloc: Global, lines: &[StraceLine<'_>]) -> Result<Recorded, AllocError>
-    ensures within { IfOk result (λ recorded. are_calls (calls_seen recorded.entries.items) ≡ true) }
-    ensures others { IfOk result (λ recorded. ListTheOthers (length lines.now) (calls_seen recorded.entries.items) recorded.misread.items recorded.silent.items) }
-{
-    let entries = entries_of(alloc, lines)?;
-    let accounts = account(alloc, lines, &entries)?;
-    Ok(Recorded {
-        entries,
-        misread: accounts.misread,
-        silent: accounts.silent,
-    })
-}
-
 /// What a record that `strace -f` has written is as calls: an entry for each, in the order in which they end. The entries are within the
 /// limits of recorded calls, and no line is passed over: the lists have just the lines in which no call of an entry begins or ends. Only
 /// want of memory may come instead. A line past 4294967295 is told by that number.
@@ -56,5 +42,11 @@ pub fn recorded_calls(alloc: Global, text: &[u8]) -> Result<Recorded, AllocError
     ensures others { IfOk result (λ recorded. ListTheOthers (length (lines_of text.now)) (calls_seen recorded.entries.items) recorded.misread.items recorded.silent.items) }
 {
     let lines = read_strace(alloc, text)?;
-    recorded_of(alloc, &lines)
+    let entries = entries_of(alloc, &lines)?;
+    let accounts = account(alloc, &lines, &entries)?;
+    Ok(Recorded {
+        entries,
+        misread: accounts.misread,
+        silent: accounts.silent,
+    })
 }

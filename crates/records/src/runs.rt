@@ -14,7 +14,7 @@ use crate::other_rights::OtherRight;
 use crate::real_calls::{Given, operands_of};
 use crate::seen_calls::SeenCall;
 use rights::Call;
-use std::alloc::{AllocError, Global};
+use std::alloc::AllocError;
 
 /// A record as it is gone through.
 #[derive(Drop)]
@@ -24,14 +24,6 @@ pub(crate) struct Run {
 }
 
 impl Run {
-    /// No entry, and nothing known.
-    pub(crate) fn new(alloc: Global) -> Run {
-        Run {
-            log: Log::new(alloc),
-            known: Known::new(alloc),
-        }
-    }
-
     /// The entries, if there was memory for all.
     pub(crate) fn into_entries(self) -> Result<Vec<Entry>, AllocError>
         ensures { IfOk result (λ entries. are_calls (calls_seen entries.items) ≡ true) }
@@ -113,7 +105,7 @@ impl Run {
     pub(crate) fn add_alone(&mut self, seen: &SeenCall<'_>, call: Call, outcome: Option<Outcome>)
         requires { operand_kinds (call_of call) ≡ [] }
     {
-        self.add(seen, call, &[], outcome, About::nothing());
+        self.add(seen, call, &[], outcome, [None, None]);
     }
 
     /// Adds a call that is given a descriptor, and perhaps makes another one.
@@ -128,7 +120,7 @@ impl Run {
         requires { operand_kinds (call_of call) ≡ A_number ∷ [] }
     {
         let given = [Given::Number(mention.number)];
-        self.add(seen, call, &given, outcome, About::both(mention, made));
+        self.add(seen, call, &given, outcome, [Some(mention), made]);
     }
 
     /// Adds a call that is given a descriptor alone, and came to what the record says.
@@ -150,7 +142,7 @@ impl Run {
         requires { operand_kinds (call_of call) ≡ A_number ∷ A_number ∷ [] }
     {
         let given = [Given::Number(mention.number), Given::Number(value)];
-        self.add(seen, call, &given, outcome, About::one(mention));
+        self.add(seen, call, &given, outcome, [Some(mention), None]);
     }
 
     /// Adds a call through which bytes of a stream go: so many as it answers.
@@ -168,7 +160,7 @@ impl Run {
             Outcome::Success(bytes) if self.known.is_end(stream) => Some(bytes),
             _ => None,
         };
-        let event = self.called(call, given, outcome, About::one(stream), bytes);
+        let event = self.called(call, given, outcome, [Some(stream), None], bytes);
         self.log.add(seen.when, event);
     }
 

@@ -5,11 +5,8 @@ use crate::entries::Outcome;
 use crate::logs::{CallName, When};
 use crate::names::find_error;
 use crate::strace_results::{Answer, CallResult};
-use crate::strace_texts::{between, same_bytes, without_spaces};
-use crate::strings::unescaped;
+use crate::strace_texts::{same_bytes, without_spaces};
 use rights::Errno;
-use std::alloc::Global;
-use texts::Page;
 
 /// A call of a process.
 #[derive(Clone, Copy)]
@@ -29,24 +26,15 @@ pub(crate) struct SeenCall<'t> {
     pub outcome: Option<Outcome>,
 }
 
-/// The error of this name, if it has a counterpart here. Linux's EPERM has none: it is of owners.
-fn error_named(name: &[u8]) -> Option<Errno> {
-    if same_bytes(name, b"EPERM") {
-        None
-    } else if same_bytes(name, b"ESPIPE") {
-        Some(Errno::EINVAL)
-    } else {
-        find_error(name).ok()
-    }
-}
-
-/// What a call came to, if that has a counterpart here.
+/// What a call came to, if that has a counterpart here. Linux's EPERM has none: it is of owners.
 fn outcome_of(answer: Answer<'_>, error: &[u8]) -> Option<Outcome> {
     match answer {
         Answer::Number(number) => Some(Outcome::Success(number)),
-        Answer::Failure => match error_named(error) {
-            Some(error) => Some(Outcome::Failure(error)),
-            None => None,
+        Answer::Failure if same_bytes(error, b"EPERM") => None,
+        Answer::Failure if same_bytes(error, b"ESPIPE") => Some(Outcome::Failure(Errno::EINVAL)),
+        Answer::Failure => match find_error(error) {
+            Ok(error) => Some(Outcome::Failure(error)),
+            Err(_) => None,
         },
         Answer::Unknown | Answer::Other(_) => None,
     }
@@ -99,22 +87,6 @@ impl<'t> SeenCall<'t> {
     /// Whether an argument has this word.
     pub(crate) fn has(&self, at: usize, word: &[u8]) -> bool {
         has_word(self.argument(at), word)
-    }
-
-    /// The bytes of a string that an argument is, if it was written whole.
-    pub(crate) fn string(&self, alloc: Global, at: usize) -> Option<Page> {
-        match between(self.argument(at), b"\"", b"\"") {
-            Some(text) => Some(unescaped(alloc, text)),
-            None => None,
-        }
-    }
-
-    /// The number that it answers, where it succeeds and 32 bits hold it.
-    pub(crate) fn success(&self) -> Option<u32> {
-        match self.made {
-            Some(made) => Some(made.number),
-            None => None,
-        }
     }
 
     /// Whether it succeeds.

@@ -3,7 +3,7 @@
 ghost use Rattle.std.specs.Prelude.{◌≡◌, IfOk, length};
 ghost use Rattle.texts.specs.Lines.{lines_of};
 
-use crate::argument_parts::close_of;
+use crate::argument_parts::first_at_top;
 use crate::strace_headers::header_of;
 use crate::strace_results::{CallResult, result_of};
 use crate::strace_texts::{
@@ -78,7 +78,7 @@ fn end_of(text: &[u8]) -> Told<'_> {
 
 /// The arguments up to the bracket that closes them, and the result behind it.
 fn ended(text: &[u8]) -> Option<(&[u8], CallResult<'_>)> {
-    let Some(at) = close_of(text) else {
+    let Some(at) = first_at_top(text, b')') else {
         return None;
     };
     match result_of(&text[at + 1..]) {
@@ -102,15 +102,6 @@ fn resumed_of(text: &[u8]) -> Told<'_> {
             returned,
         },
         _ => Told::Other,
-    }
-}
-
-/// What a line tells that begins with `<`: the end of a call, or a remark that the end of a line before was cut off.
-fn behind_others(text: &[u8]) -> Told<'_> {
-    match after(text, b"<... ") {
-        Some(rest) => resumed_of(rest),
-        None if same_bytes(text, b"<unfinished ...>") => Told::Remark(text),
-        None => Told::Other,
     }
 }
 
@@ -160,7 +151,12 @@ fn told_by(text: &[u8]) -> Told<'_> {
             Some(signal) => Told::Signal(signal),
             None => Told::Other,
         },
-        [b'<', ..] => behind_others(text),
+        // The end of a call, or a remark that the end of a line before was cut off.
+        [b'<', ..] => match after(text, b"<... ") {
+            Some(rest) => resumed_of(rest),
+            None if same_bytes(text, b"<unfinished ...>") => Told::Remark(text),
+            None => Told::Other,
+        },
         _ => match after(text, b"strace: ") {
             Some(remark) => Told::Remark(remark),
             None => call_of(text),

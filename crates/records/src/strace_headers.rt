@@ -38,15 +38,6 @@ fn is_time(word: &[u8]) -> bool {
     is_parted
 }
 
-/// What stands behind a time, if the text begins with one.
-fn behind_time(text: &[u8]) -> &[u8] {
-    let (word, behind) = first_part(text, b' ');
-    match behind {
-        Some(behind) if is_time(word) => without_spaces(behind),
-        _ => text,
-    }
-}
-
 /// What stands behind such a beginning and its end, if the text has both.
 fn behind_part<'t>(text: &'t [u8], beginning: &[u8], end: u8) -> &'t [u8] {
     let Some(rest) = after(text, beginning) else {
@@ -65,7 +56,11 @@ pub(crate) fn header_of(line: &[u8]) -> Header<'_> {
         process: None,
         rest: line,
     });
-    let rest = behind_time(without_spaces(header.rest));
+    let rest = without_spaces(header.rest);
+    let rest = match first_part(rest, b' ') {
+        (word, Some(behind)) if is_time(word) => without_spaces(behind),
+        _ => rest,
+    };
     let rest = behind_part(rest, b"(+", b')');
     Header {
         process: header.process,

@@ -15,6 +15,13 @@ pub struct CallResult<'t> {
     pub error: Option<&'t [u8]>,
 }
 
+/// What a call came to of which nothing is told.
+pub(crate) const UNTOLD: CallResult<'static> = CallResult {
+    answer: Answer::Unknown,
+    note: None,
+    error: None,
+};
+
 /// What a call answers.
 #[derive(Clone, Copy)]
 pub enum Answer<'t> {
@@ -60,18 +67,11 @@ pub(crate) fn note_end(text: &[u8]) -> usize
     text.len()
 }
 
-/// The number of some hexadecimal digits, if they are at most eight.
-fn short_hex(digits: &[u8]) -> Option<u32> {
-    if digits.len() > 8 {
-        return None;
-    }
-    read_hex(digits, digits.len())
-}
-
-/// The answer that a word tells which is a number, in decimal or hexadecimal digits, or as a number begins.
+/// The answer that a word tells which is a number, in decimal or at most eight hexadecimal digits, or as a number begins.
 fn number_answer(word: &[u8]) -> Answer<'_> {
     let told = match after(word, b"0x") {
-        Some(digits) => short_hex(digits),
+        Some(digits) if digits.len() <= 8 => read_hex(digits, digits.len()),
+        Some(_) => None,
         None => number(word),
     };
     match told {

@@ -3,7 +3,6 @@
 use crate::argument_values::{First, Mention, behind, first_listed, next_listed};
 use crate::entries::{Outcome, Reason};
 use crate::forms::Streaming;
-use crate::known::About;
 use crate::real_calls::Given;
 use crate::runs::Run;
 use crate::seen_calls::SeenCall;
@@ -39,16 +38,14 @@ fn add_seek(run: &mut Run, seen: &SeenCall<'_>, mention: Mention<'_>, outcome: O
 
 /// Bytes that go from one descriptor to another: a read, and a write where there were any.
 fn add_copy(run: &mut Run, seen: &SeenCall<'_>, from: usize, to: usize) {
-    let (Some(source), Some(target), Some(count)) = (
-        seen.mention(from),
-        seen.mention(to),
-        seen.success(),
-    ) else {
+    let (Some(source), Some(target), Some(made)) = (seen.mention(from), seen.mention(to), seen.made)
+    else {
         return run.omit(seen, Reason::Unknown);
     };
-    add_read(run, seen, source, Outcome::Success(count));
-    if count != 0 {
-        add_write(run, seen, target, Outcome::Success(count));
+    let outcome = Outcome::Success(made.number);
+    add_read(run, seen, source, outcome);
+    if made.number != 0 {
+        add_write(run, seen, target, outcome);
     }
 }
 
@@ -76,23 +73,6 @@ fn first_carried<'t>(seen: &SeenCall<'t>) -> Option<First<'t>> {
     }
 }
 
-/// The sending of one descriptor.
-fn add_sent(
-    run: &mut Run,
-    seen: &SeenCall<'_>,
-    socket: Mention<'_>,
-    sent: Mention<'_>,
-    outcome: Outcome,
-) {
-    let given = [
-        Given::Number(socket.number),
-        Given::Number(sent.number),
-        Given::Number(1),
-    ];
-    let about = About::both(socket, Some(sent));
-    run.add(seen, Call::Sendfd, &given, Some(outcome), about);
-}
-
 /// A message that is sent.
 fn add_sending(run: &mut Run, seen: &SeenCall<'_>, socket: Mention<'_>, outcome: Outcome) {
     let mut next = first_carried(seen);
@@ -103,18 +83,15 @@ fn add_sending(run: &mut Run, seen: &SeenCall<'_>, socket: Mention<'_>, outcome:
         let Some(sent) = next else {
             break;
         };
-        add_sent(run, seen, socket, sent.mention, outcome);
+        let given = [
+            Given::Number(socket.number),
+            Given::Number(sent.mention.number),
+            Given::Number(1),
+        ];
+        let about = [Some(socket), Some(sent.mention)];
+        run.add(seen, Call::Sendfd, &given, Some(outcome), about);
         next = next_listed(sent.behind);
     }
-}
-
-/// The receipt of one descriptor.
-fn add_received(run: &mut Run, seen: &SeenCall<'_>, socket: Mention<'_>, received: Mention<'_>) {
-    let kept = run.known.kept_of_note(received.note);
-    let closes_on_exec = seen.has(2, b"MSG_CMSG_CLOEXEC");
-    run.known.hold(received.number, kept, closes_on_exec);
-    let outcome = Some(Outcome::Success(received.number));
-    run.add_on(seen, Call::Recvfd, socket, Some(received), outcome);
 }
 
 /// A message that is received.
@@ -124,11 +101,16 @@ fn add_receipt(run: &mut Run, seen: &SeenCall<'_>, socket: Mention<'_>, outcome:
         return add_read(run, seen, socket, outcome);
     }
     for _ in 0..MOST_CARRIED {
-        let Some(received) = next else {
+        let Some(first) = next else {
             break;
         };
-        add_received(run, seen, socket, received.mention);
-        next = next_listed(received.behind);
+        let received = first.mention;
+        let kept = run.known.kept_of_note(received.note);
+        let closes_on_exec = seen.has(2, b"MSG_CMSG_CLOEXEC");
+        run.known.hold(received.number, kept, closes_on_exec);
+        let outcome = Some(Outcome::Success(received.number));
+        run.add_on(seen, Call::Recvfd, socket, Some(received), outcome);
+        next = next_listed(first.behind);
     }
 }
 

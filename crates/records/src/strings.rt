@@ -51,39 +51,19 @@ fn hexadecimal(digit: u8) -> u8 {
     }
 }
 
-/// A byte that an escape completes, or how far the escape has come.
-#[derive(Clone, Copy)]
-enum Next {
-    Gives(u8),
-    Leads(Escape),
-}
-
-impl Escape {
-    /// What the next byte does, which stands in no octal number.
-    fn next(self, byte: u8) -> Next {
-        match self {
-            Escape::Begun if is_octal(byte) => Next::Leads(Escape::Octal(octal(0, byte), 1)),
-            Escape::Begun if byte == b'x' => Next::Leads(Escape::Lettered),
-            Escape::Begun => Next::Gives(letter(byte)),
-            Escape::Lettered => Next::Leads(Escape::Halfway(hexadecimal(byte))),
-            Escape::Halfway(value) => {
-                Next::Gives(value.wrapping_mul(16).wrapping_add(hexadecimal(byte)))
-            }
-            _ if byte == b'\\' => Next::Leads(Escape::Begun),
-            _ => Next::Gives(byte),
-        }
-    }
-}
-
 /// Adds what a byte gives, which stands in no octal number, behind an escape: how far the next one has come.
 fn add_byte(page: &mut Page, escape: Escape, byte: u8) -> Escape {
-    match escape.next(byte) {
-        Next::Gives(given) => {
-            page.bytes(&[given]);
-            Escape::Not
-        }
-        Next::Leads(escape) => escape,
-    }
+    let given = match escape {
+        Escape::Begun if is_octal(byte) => return Escape::Octal(octal(0, byte), 1),
+        Escape::Begun if byte == b'x' => return Escape::Lettered,
+        Escape::Begun => letter(byte),
+        Escape::Lettered => return Escape::Halfway(hexadecimal(byte)),
+        Escape::Halfway(value) => value.wrapping_mul(16).wrapping_add(hexadecimal(byte)),
+        _ if byte == b'\\' => return Escape::Begun,
+        _ => byte,
+    };
+    page.bytes(&[given]);
+    Escape::Not
 }
 
 /// The bytes of a text with C's escapes. A backslash that begins no escape stands for the byte behind it.

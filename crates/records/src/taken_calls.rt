@@ -25,15 +25,6 @@ fn mapping_right(seen: &SeenCall<'_>) -> OtherRight {
     }
 }
 
-/// Takes a mapping: of a file, it wants a right; of memory, nothing.
-fn take_map(run: &mut Run, seen: &SeenCall<'_>) {
-    let file = seen.mention(4);
-    if file.is_none() || seen.has(3, b"MAP_ANONYMOUS") {
-        return run.omit(seen, Reason::Quiet);
-    }
-    run.want(seen, mapping_right(seen), file);
-}
-
 /// The first descriptor that a call waits for.
 fn first_waited<'t>(seen: &SeenCall<'t>) -> Option<Mention<'t>> {
     if let Some(rest) = behind(seen.argument(0), b"{fd=") {
@@ -45,14 +36,6 @@ fn first_waited<'t>(seen: &SeenCall<'t>) -> Option<Mention<'t>> {
         }
     }
     None
-}
-
-/// Takes a call that wants a right of a directory, or works on a global name.
-fn take_at(run: &mut Run, seen: &SeenCall<'_>, right: OtherRight) {
-    if here_note(seen.argument(0)).is_some() {
-        return run.omit(seen, Reason::Global);
-    }
-    run.want(seen, right, seen.mention(0));
 }
 
 /// Whether the loader makes such a call.
@@ -67,14 +50,6 @@ fn is_of_loader(form: Form) -> bool {
     )
 }
 
-/// Whether a call says nothing of whether the loader is at work: it has nothing to do with files, or reads a link, or isn't known.
-fn may_be_of_loader(form: Form) -> bool {
-    matches!(
-        form,
-        Form::LeftOut(Reason::Quiet | Reason::Global | Reason::Name)
-    )
-}
-
 /// Takes a call of this form.
 fn take_form(run: &mut Run, seen: &SeenCall<'_>, form: Form) {
     match form {
@@ -86,32 +61,39 @@ fn take_form(run: &mut Run, seen: &SeenCall<'_>, form: Form) {
         Form::World => pairing::take_world(run, seen),
         Form::Connection => pairing::take_connection(run, seen),
         Form::Process(form) => process_calls::take(run, seen, form),
-        Form::Map => take_map(run, seen),
+        // A mapping of a file wants a right; one of memory, nothing.
+        Form::Map => match seen.mention(4) {
+            Some(file) if !seen.has(3, b"MAP_ANONYMOUS") => {
+                run.want(seen, mapping_right(seen), Some(file))
+            }
+            _ => run.omit(seen, Reason::Quiet),
+        },
         Form::Waits => run.want(seen, OtherRight::Event, first_waited(seen)),
         Form::Wants(right, at) => run.want(seen, right, seen.mention(at)),
-        Form::WantsAt(right) => take_at(run, seen, right),
+        Form::WantsAt(_) if here_note(seen.argument(0)).is_some() => run.omit(seen, Reason::Global),
+        Form::WantsAt(right) => run.want(seen, right, seen.mention(0)),
         Form::LeftOut(reason) => run.omit(seen, reason),
     }
 }
 
-/// Notes which the current directory is, where that isn't known and the call tells it.
-fn note_directory(run: &mut Run, seen: &SeenCall<'_>) {
+/// Takes a call. It may tell which the current directory is, where that isn't known.
+pub(crate) fn take(run: &mut Run, seen: &SeenCall<'_>) {
     if matches!(run.known.process.directory, Kept::Unknown) {
         if let Some(note) = here_note(seen.argument(0)) {
             run.known.process.directory = run.known.kept_of_note(note);
         }
     }
-}
-
-/// Takes a call.
-pub(crate) fn take(run: &mut Run, seen: &SeenCall<'_>) {
-    note_directory(run, seen);
     let form = form_of(seen.name.bytes);
     if run.known.process.is_loading {
         if is_of_loader(form) {
             return run.omit(seen, Reason::Loader);
         }
-        if !may_be_of_loader(form) || same_bytes(seen.name.bytes, b"set_tid_address") {
+        // A call that has nothing to do with files, or reads a link, or isn't known, says nothing of that.
+        let says_nothing = matches!(
+            form,
+            Form::LeftOut(Reason::Quiet | Reason::Global | Reason::Name)
+        );
+        if !says_nothing || same_bytes(seen.name.bytes, b"set_tid_address") {
             run.known.process.is_loading = false;
         }
     }

@@ -4,6 +4,7 @@ use crate::argument_values::{Mention, here_note, place_note};
 use crate::held::Kept;
 use crate::known::Known;
 use crate::seen_calls::SeenCall;
+use crate::strace_texts::between;
 use crate::strings::unescaped;
 use texts::Page;
 
@@ -44,20 +45,10 @@ pub(crate) struct Target<'t> {
     pub path: Page,
 }
 
-/// Whether a path begins at the root.
-fn is_absolute(path: &[u8]) -> bool {
-    path.starts_with(b"/")
-}
-
-/// Whether a place ends in a slash, as the root does.
-fn ends_in_slash(place: &[u8]) -> bool {
-    place.ends_with(b"/")
-}
-
 /// Adds a path to a place that it is beneath.
 fn add_beneath(place: &mut Page, path: &Page) {
     if !path.is_empty() {
-        if !ends_in_slash(place.as_bytes()) {
+        if !place.as_bytes().ends_with(b"/") {
             place.bytes(b"/");
         }
         place.page(path);
@@ -65,16 +56,6 @@ fn add_beneath(place: &mut Page, path: &Page) {
 }
 
 impl Known {
-    /// The place that a path from the root of the process has.
-    fn from_root(&self, path: &Page) -> Page {
-        let mut place = Page::new(self.alloc);
-        if let Some(root) = self.place_of(self.process.root) {
-            place.page(root);
-        }
-        place.page(path);
-        place
-    }
-
     /// The place that a path beneath a place has, if that is known.
     fn beneath(&self, kept: Kept, path: &Page) -> Option<Page> {
         let Some(directory) = self.place_of(kept) else {
@@ -86,11 +67,16 @@ impl Known {
         Some(place)
     }
 
-    /// The place that a path has which is absolute, or counted from the current directory, if that is known: by its note, or else as it was
-    /// followed.
+    /// The place that a path has which is counted from the root of the process, or from the current directory, if that is known: by its note,
+    /// or else as it was followed.
     fn from_here(&self, note: &[u8], path: &Page) -> Option<Page> {
-        if is_absolute(path.as_bytes()) {
-            return Some(self.from_root(path));
+        if path.as_bytes().starts_with(b"/") {
+            let mut place = Page::new(self.alloc);
+            if let Some(root) = self.place_of(self.process.root) {
+                place.page(root);
+            }
+            place.page(path);
+            return Some(place);
         }
         let Some(directory) = place_note(note) else {
             return self.beneath(self.process.directory, path);
@@ -100,13 +86,16 @@ impl Known {
         Some(place)
     }
 
-    /// What a name of a call stands at, if that is known.
+    /// What a name of a call stands at, if that is known: the string was written whole.
     pub(crate) fn target<'t>(&self, seen: &SeenCall<'t>, naming: Naming) -> Option<Target<'t>> {
-        let Some(path) = seen.string(self.alloc, naming.path) else {
+        let Some(text) = between(seen.argument(naming.path), b"\"", b"\"") else {
             return None;
         };
+        let path = unescaped(self.alloc, text);
         let note: &[u8] = match naming.base {
-            Some(base) if !is_absolute(path.as_bytes()) => match here_note(seen.argument(base)) {
+            Some(base) if !path.as_bytes().starts_with(b"/") => match here_note(seen.argument(
+                base,
+            )) {
                 Some(note) => note,
                 None => {
                     return match seen.mention(base) {

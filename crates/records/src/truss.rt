@@ -1,10 +1,10 @@
 //! The lines that FreeBSD's `truss -f` writes: what each of them tells. (own: the forms are written down from memory of truss(1) and of its
 //! sources; no record of a FreeBSD was tried)
 
-use crate::argument_parts::close_of;
+use crate::argument_parts::first_at_top;
 use crate::names::error_of_number;
 use crate::strace::{StraceLine, Told};
-use crate::strace_results::{Answer, CallResult, answer_of};
+use crate::strace_results::{Answer, CallResult, UNTOLD, answer_of};
 use crate::strace_texts::{after, is_name, number, number_after};
 use texts::first_part;
 
@@ -36,25 +36,16 @@ fn behind_seconds(text: &[u8]) -> &[u8] {
     }
 }
 
-/// What a call came to, with nothing noted of a descriptor.
-fn returned<'t>(answer: Answer<'t>, error: Option<&'t [u8]>) -> CallResult<'t> {
-    CallResult {
-        answer,
-        note: None,
-        error,
-    }
-}
-
 /// What a call came to: `= 3 (0x3)`, or `ERR#2 'No such file or directory'`; nothing stands behind one that doesn't return.
 fn result_of(text: &[u8]) -> Option<CallResult<'_>> {
     let text = without_blanks(text);
     if text.is_empty() {
-        return Some(returned(Answer::Unknown, None));
+        return Some(UNTOLD);
     }
     if let Some(rest) = after(text, b"= ") {
         let (word, _behind) = first_part(rest, b' ');
         return match answer_of(word) {
-            Some(answer) => Some(returned(answer, None)),
+            Some(answer) => Some(CallResult { answer, ..UNTOLD }),
             None => None,
         };
     }
@@ -63,7 +54,11 @@ fn result_of(text: &[u8]) -> Option<CallResult<'_>> {
     };
     let (digits, _behind) = first_part(rest, b' ');
     match number(digits) {
-        Some(number) => Some(returned(Answer::Failure, error_of_number(number))),
+        Some(number) => Some(CallResult {
+            answer: Answer::Failure,
+            error: error_of_number(number),
+            ..UNTOLD
+        }),
         None => None,
     }
 }
@@ -73,7 +68,7 @@ fn call_of(text: &[u8]) -> Told<'_> {
     let (name, Some(rest)) = first_part(text, b'(') else {
         return Told::Other;
     };
-    let Some(at) = close_of(rest) else {
+    let Some(at) = first_at_top(rest, b')') else {
         return Told::Other;
     };
     match result_of(&rest[at + 1..]) {

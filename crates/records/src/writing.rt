@@ -3,50 +3,47 @@
 ghost use Rattle.std.specs.Prelude.{◌≡◌, Ok, count_by, map, true};
 ghost use Rattle.std.specs.List.{flat_map};
 ghost use Rattle.texts.specs.PageViews.{Adds};
-ghost use Rattle.records.specs.EntryViews.{calls_seen, record_entry_seen, reason_seen};
-ghost use Rattle.records.specs.Texts.{calls_text, count, counted_text, counts_line, line_with_feed, entry_text, has_call, is_left_out, wants_right};
+ghost use Rattle.records.specs.CountViews.{is_of_count};
+ghost use Rattle.records.specs.EntryViews.{calls_seen, event_seen, reason_seen};
+ghost use Rattle.records.specs.Texts.{calls_text, count, counted_text, counts_line, line_with_feed, entry_text, is_left_out};
 ghost use Rattle.records.specs.Calls.{are_calls};
 ghost use Rattle.records.specs.Readings.{calls_of_text};
 ghost use Rattle.records.specs.Named.{all_reasons, reason_name};
 
-use crate::entries::{Entry, Reason};
+use crate::entries::{Entry, Event, Reason};
 use crate::line_texts::add_line;
 use crate::names::REASONS;
 use texts::{Page, Say, parts_of, say};
 
-/// How many entries are calls.
-fn calls_in(entries: &[Entry]) -> usize
-    ensures { result ≡ count_by (λ entry. has_call entry.event) (calls_seen entries.now) }
-{
-    let mut count = 0;
-    for entry in entries {
-        if entry.event.is_call() {
-            count += 1;
-        }
-    }
-    count
+/// What the last line counts.
+#[derive(Clone, Copy)]
+enum Counted {
+    /// The calls.
+    Calls,
+    /// What is left out for this reason.
+    LeftOut(Reason),
+    /// That for which a right is wanted.
+    Rights,
 }
 
-/// How many entries are left out for a reason.
-fn left_out_in(entries: &[Entry], reason: Reason) -> usize
-    ensures { result ≡ count_by (λ entry. is_left_out (reason_seen reason) entry.event) (calls_seen entries.now) }
+/// Whether an event is counted.
+fn is_of_count(counted: Counted, event: &Event) -> bool
+    ensures { result ≡ is_of_count counted (event_seen event.now) }
 {
-    let mut count = 0;
-    for entry in entries {
-        if entry.event.is_left_out(reason) {
-            count += 1;
-        }
+    match counted {
+        Counted::Calls => event.is_call(),
+        Counted::LeftOut(reason) => event.is_left_out(reason),
+        Counted::Rights => event.wants_right(),
     }
-    count
 }
 
-/// For how many entries a right is wanted.
-fn rights_in(entries: &[Entry]) -> usize
-    ensures { result ≡ count_by (λ entry. wants_right entry.event) (calls_seen entries.now) }
+/// How many entries are counted.
+fn count_in(entries: &[Entry], counted: Counted) -> usize
+    ensures { result ≡ count_by (λ entry. is_of_count counted entry.event) (calls_seen entries.now) }
 {
     let mut count = 0;
     for entry in entries {
-        if entry.event.wants_right() {
+        if is_of_count(counted, &entry.event) {
             count += 1;
         }
     }
@@ -59,7 +56,7 @@ fn add_reasons(page: &mut Page, entries: &[Entry], reasons: &[Reason])
         (map reason_seen reasons.now)) }
 {
     for reason in reasons {
-        say!(page; " ", reason.name(), " ", left_out_in(entries, *reason));
+        say!(page; " ", reason.name(), " ", count_in(entries, Counted::LeftOut(*reason)));
     }
 }
 
@@ -68,9 +65,9 @@ fn add_reasons(page: &mut Page, entries: &[Entry], reasons: &[Reason])
 pub(crate) fn add_end(page: &mut Page, entries: &[Entry])
     ensures { Adds page.old page.new (counts_line (calls_seen entries.now)) }
 {
-    say!(page; "end calls ", calls_in(entries));
+    say!(page; "end calls ", count_in(entries, Counted::Calls));
     add_reasons(page, entries, &REASONS);
-    say!(page; " rights ", rights_in(entries));
+    say!(page; " rights ", count_in(entries, Counted::Rights));
 }
 
 /// Adds the lines of entries.

@@ -65,7 +65,8 @@ broken : Finding
 broken = record { rule = named (codes "never-enters"); level = error; message = codes "m"; place = Some (record { line = 3; column = None }); related = [] }
 
 finding_text : compact_text (finding_json (codes "t") two_rules broken) ≡
-    codes "{\"level\":\"error\",\"locations\":[{\"physicalLocation\":{\"artifactLocation\":{\"uri\":\"t\"},\"region\":{\"startLine\":3}}}],\"message\":{\"text\":\"m\"},\"relatedLocations\":[],\"ruleId\":\"never-enters\",\"ruleIndex\":1}"
+    codes "{\"level\":\"error\",\"locations\":[{\"physicalLocation\":{\"artifactLocation\":{\"uri\":\"t\"},\"region\":{\"startLine\":3}}}],"
+    ++ codes "\"message\":{\"text\":\"m\"},\"relatedLocations\":[],\"ruleId\":\"never-enters\",\"ruleIndex\":1}"
 unfolding serde_json_on_literals digits utf8_lossy utf8_valid_len is_utf8 chars two_rules broken
 finding_text = refl
 

@@ -7,4 +7,5 @@ pub mod KnownLimits
 pub mod Versions
 pub mod Authorities
 pub mod Shortened
+pub mod Short
 pub mod Widened

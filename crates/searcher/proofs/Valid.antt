@@ -1,10 +1,9 @@
 -- What is so of the first processes of a valid plan.
-use Rattle.std.proofs.Common.{◌≡◌, ℕ, ◌<◌, zero, suc, true, List, [], ◌∷◌, arith}
+use Rattle.std.proofs.Common.{◌≡◌, true}
 use Rattle.std.specs.Prelude.{◌&&◌, length, nat_le}
 use Rattle.std.specs.List.{list_all}
 use Rattle.rights.specs.Limits.{most_processes, most_programs}
 use Rattle.rights.proofs.Tests.{both_left, both_right}
-use Rattle.instruction_set.specs.Programs.{is_program}
 use Rattle.task.specs.Plans.{Plan}
 use Rattle.task.specs.Limits.{is_tree, are_grants, is_program_named, are_named_apart, all_apart, is_start, are_programs, are_starts, is_plan}
 

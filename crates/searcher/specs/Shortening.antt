@@ -1,6 +1,6 @@
 -- The short form of a certificate: bounds at named points alone, in version 2, where others are carried. (own)
-use Rattle.std.specs.Prelude.{Bool, []}
-use Rattle.std.specs.List.{filter}
+use Rattle.std.specs.Prelude.{◌≡◌, Bool, true, []}
+use Rattle.std.specs.List.{filter, list_all}
 use Rattle.certificate.specs.Bounds.{PointBound, Two, Certificate}
 use Rattle.rules.specs.Expansions.{code_named, is_named}
 use Rattle.task.specs.Plans.{Plan}
@@ -11,3 +11,9 @@ is_at_named plan b = is_named (code_named plan.programs b.program) b.point
 
 unfoldable pub short_form : Plan → Certificate → Certificate
 short_form plan c = record { version = Two; points = filter (is_at_named plan) c.points; channels = c.channels; authorities = [] }
+
+-- A certificate that is its own short form.
+pub record IsShort (plan : Plan) (c : Certificate) : Type 0 where
+  pub two : c.version ≡ Two
+  pub named : list_all (is_at_named plan) c.points ≡ true
+  pub none : c.authorities ≡ []

@@ -115,10 +115,10 @@ fn taken_further(old: Interval, grown: Interval, constants: &[u32], is_late: boo
 }
 
 /// A bound that grew, with the registers widened that did.
-fn widened(old: &Bound, grown: Bound, constants: &[u32], is_late: bool) -> Bound
-    ensures { bound_within (bound_of grown) (bound_of result) ≡ true }
+fn widened(old: &Bound, grown: &Bound, constants: &[u32], is_late: bool) -> Bound
+    ensures { bound_within (bound_of grown.now) (bound_of result) ≡ true }
 {
-    let mut next = grown;
+    let mut next = *grown;
     for register in 0..REGISTERS {
         let register = register as u8;
         let before = old.interval(register);
@@ -140,7 +140,7 @@ fn grown_to(there: &Bound, outcome: &Outcome<'_>, changes: u32, constants: &[u32
     if changes <= FEW_CHANGES {
         return joined;
     }
-    widened(there, joined, constants, changes > MANY_CHANGES)
+    widened(there, &joined, constants, changes > MANY_CHANGES)
 }
 
 impl PointState {

@@ -130,11 +130,11 @@ fn take_waiting(
             break;
         }
         if point < MAX_INSTRUCTIONS {
-            if let Some(bound) = points.next_at(point) {
+            if let Some(bound) = &points.next_at(point) {
                 let instruction = &code[point];
                 any = true;
-                channels.learn(alloc, &bound, instruction)?;
-                take_outcomes(task, channels, points, point as u8, &bound, instruction);
+                channels.learn(alloc, bound, instruction)?;
+                take_outcomes(task, channels, points, point as u8, bound, instruction);
             }
         }
     }

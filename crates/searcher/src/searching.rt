@@ -1,15 +1,15 @@
 //! The search.
 
-ghost use Rattle.std.specs.Prelude.{◌≡◌, true, false, IfOk, IfSome, OnOk};
+ghost use Rattle.std.specs.Prelude.{◌≡◌, true, false, IfOk, IfSome, IsOk, Ok};
 ghost use Rattle.certificate.specs.Bounds.{Certificate, Two};
 ghost use Rattle.checker.specs.Verdicts.{IsAccepted};
 ghost use Rattle.searcher.specs.Flat.{flat};
-ghost use Rattle.searcher.specs.Shortening.{short_form};
+ghost use Rattle.searcher.specs.Shortening.{IsShort, short_form};
 ghost use Rattle.task.specs.Limits.{is_plan};
 ghost use Rattle.task.specs.Plans.{none_marked};
 
 use crate::channels::Channels;
-use crate::drawing::push_found;
+use crate::drawing::{push_found, push_found_short};
 use crate::flat::flat;
 use crate::point_states::ProgramPoints;
 use crate::rounds::{all_program_points, settle};
@@ -28,49 +28,68 @@ pub(crate) fn is_accepted(task: &Task, cert: &Cert) -> bool
     check(task, cert) == Verdict::Yes
 }
 
-/// Goes through all points until none waits, and adds what is found of them. Whether that came.
-fn push_settled(
-    alloc: Global,
-    task: &Task,
-    cert: &mut Cert,
-    channels: &mut Channels,
-    all_points: &mut Vec<ProgramPoints>,
-) -> Result<bool, Refusal>
-    ensures { OnOk result (cert.new.version ≡ cert.old.version) }
-{
-    if !settle(alloc, task, channels, all_points)? {
-        return Ok(false);
-    }
-    push_found(cert, all_points, channels)?;
-    Ok(true)
+/// What the search point by point comes to: the points of the programs, and the channels.
+#[derive(Drop)]
+struct AllFound {
+    all_points: Vec<ProgramPoints>,
+    channels: Channels,
 }
 
-/// What is found point by point, where the search settles.
-fn settled(
-    alloc: Global,
-    task: &Task,
-    mut all_points: Vec<ProgramPoints>,
-) -> Result<Option<Cert>, Refusal>
-    ensures { IfOk result (λ found. IfSome found (λ cert. cert.version ≡ Two)) }
-{
+/// Goes through all points until none waits, where that comes.
+fn settled(alloc: Global, task: &Task) -> Result<Option<AllFound>, Memory> {
+    let mut all_points = all_program_points(alloc, task)?;
     let mut channels = Channels::new(alloc);
-    let mut cert = Cert::new(alloc, Version::Two);
-    match push_settled(alloc, task, &mut cert, &mut channels, &mut all_points) {
-        Ok(true) => Ok(Some(cert)),
-        Ok(false) => Ok(None),
-        Err(refusal) => Err(refusal),
+    match settle(alloc, task, &mut channels, &mut all_points) {
+        Ok(true) => {}
+        Ok(false) | Err(Refusal::Limit | Refusal::Order) => return Ok(None),
+        Err(Refusal::Memory) => return Err(Memory),
     }
+    Ok(Some(AllFound {
+        all_points,
+        channels,
+    }))
+}
+
+/// Whether a certificate has room for what was added.
+fn has_room(added: Result<(), Refusal>) -> Result<bool, Memory>
+    ensures { IfOk result (λ has. has ≡ true → IsOk added) }
+{
+    match added {
+        Ok(()) => Ok(true),
+        Err(Refusal::Limit | Refusal::Order) => Ok(false),
+        Err(Refusal::Memory) => Err(Memory),
+    }
+}
+
+/// All bounds that were found, as a certificate.
+fn drawn(alloc: Global, mut found: AllFound) -> Result<Option<Cert>, Memory>
+    ensures { IfOk result (λ cert. IfSome cert (λ c. c.version ≡ Two)) }
+{
+    let mut cert = Cert::new(alloc, Version::Two);
+    if !has_room(push_found(&mut cert, &mut found.all_points, &found.channels))? {
+        return Ok(None);
+    }
+    Ok(Some(cert))
+}
+
+/// Those at named points alone.
+fn drawn_short(alloc: Global, task: &Task, mut found: AllFound) -> Result<Option<Cert>, Memory>
+    ensures { IfOk result (λ cert. IfSome cert (λ c. IsShort task.now c)) }
+{
+    let mut short = Cert::new(alloc, Version::Two);
+    if !has_room(push_found_short(&mut short, task, &mut found.all_points, &found.channels))? {
+        return Ok(None);
+    }
+    Ok(Some(short))
 }
 
 /// The certificate that the search point by point proposes, if it comes to one.
 pub(crate) fn by_points(alloc: Global, task: &Task) -> Result<Option<Cert>, Memory>
     ensures { IfOk result (λ found. IfSome found (λ cert. cert.version ≡ Two)) }
 {
-    let all_points = all_program_points(alloc, task)?;
-    match settled(alloc, task, all_points) {
-        Ok(cert) => Ok(cert),
-        Err(Refusal::Memory) => Err(Memory),
-        Err(Refusal::Limit | Refusal::Order) => Ok(None),
+    match settled(alloc, task)? {
+        Some(found) => drawn(alloc, found),
+        None => Ok(None),
     }
 }
 
@@ -107,17 +126,21 @@ fn flat_preferred(alloc: Global, task: &Task) -> Result<Option<Cert>, Memory>
     }
 }
 
-/// The certificate that the search point by point proposes, in the form that is preferred, if the checker accepts it.
-fn proposed_preferred(alloc: Global, task: &Task) -> Result<Option<Cert>, Memory>
+/// The certificate that the search point by point proposes, with bounds at named points alone, if the checker accepts it.
+fn proposed_short(alloc: Global, task: &Task) -> Result<Option<Cert>, Memory>
     ensures accepted { IfOk result (λ found. IfSome found (λ cert. IsAccepted task.now cert)) }
-    ensures version { IfOk result (λ found. IfSome found (λ cert. cert.version ≡ Two)) }
-    ensures short { IfOk result (λ found. IfSome found (λ cert.
-        IsAccepted task.now (short_form task.now cert) → cert ≡ short_form task.now cert)) }
+    ensures short { IfOk result (λ found. IfSome found (λ cert. IsShort task.now cert)) }
 {
-    match by_points(alloc, task)? {
-        Some(cert) => preferred(alloc, task, cert),
-        None => Ok(None),
+    let Some(found) = settled(alloc, task)? else {
+        return Ok(None);
+    };
+    let Some(short) = drawn_short(alloc, task, found)? else {
+        return Ok(None);
+    };
+    if is_accepted(task, &short) {
+        return Ok(Some(short));
     }
+    Ok(None)
 }
 
 /// What the search finds for a task, whatever is marked: what it comes to point by point, or else the flat certificate.
@@ -128,7 +151,7 @@ fn searched(alloc: Global, task: &Task) -> Result<Option<Cert>, Memory>
         IsAccepted task.now (short_form task.now cert) → cert ≡ short_form task.now cert)) }
     ensures flat { result ≡ Ok None → (certificate : Certificate) → flat task.now ≡ Some certificate → IsAccepted task.now certificate → ⊥ }
 {
-    match proposed_preferred(alloc, task)? {
+    match proposed_short(alloc, task)? {
         Some(cert) => Ok(Some(cert)),
         None => flat_preferred(alloc, task),
     }

@@ -151,8 +151,11 @@ fn step_process<T: Tree>(
     if !process.alive {
         return Ok(without_effects(LineResult::Ended));
     }
-    let Some(deed) = process.take_deed() else {
+    if process.deed().is_none() {
         return follow(alloc, task, world, event);
+    }
+    let Some(deed) = process.take_deed() else {
+        unreachable!()
     };
     let point = process.point;
     process.point = 0;

@@ -21,8 +21,8 @@ use std::alloc::AllocError;
 use syscalls::Effects;
 use task::Task;
 
-/// Appends a number in decimal, two digits at once; most have one or two.
-fn push_number(page: &mut Page, number: u32) -> Result<(), AllocError>
+/// Appends a number in decimal, two digits at once.
+fn push_digits(page: &mut Page, number: u32) -> Result<(), AllocError>
     ensures lines { page.new.lines ≡ page.old.lines }
     ensures line { OnOk result (page.new.line ≡ page.old.line ++ decimal number) }
 {
@@ -30,9 +30,21 @@ fn push_number(page: &mut Page, number: u32) -> Result<(), AllocError>
         return page.push(b'0' + number as u8);
     }
     if number >= 100 {
-        push_number(page, number / 100)?;
+        push_digits(page, number / 100)?;
     }
     page.append_word(&[b'0' + (number / 10 % 10) as u8, b'0' + (number % 10) as u8])
+}
+
+/// Appends a number in decimal. Most have one digit, and need no call.
+#[inline(always)]
+fn push_number(page: &mut Page, number: u32) -> Result<(), AllocError>
+    ensures lines { page.new.lines ≡ page.old.lines }
+    ensures line { OnOk result (page.new.line ≡ page.old.line ++ decimal number) }
+{
+    if number < 10 {
+        return page.push(b'0' + number as u8);
+    }
+    push_digits(page, number)
 }
 
 /// Appends why a call failed, as ` ! EBADF BadDescriptor`.

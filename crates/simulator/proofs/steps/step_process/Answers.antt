@@ -31,16 +31,15 @@ returns-then-not-process-clause-does g c =
     (sym (ap (λ (t : ProcessState). t.alive) c.process.view_is) ∙ c.if-not-process.true) made
     c.without_effects.ensures.outcome (ap (effects_in (g.T.Tree.nodes c.args.world.now.tree)) c.without_effects.ensures.effects))
 
-pub returns-in_default-clause-does : goal.returns-in_default-clause-does
-returns-in_default-clause-does g c =
+pub returns-then-is_none-clause-does : goal.returns-then-is_none-clause-does
+returns-then-is_none-clause-does g c =
     let x = c.index_mut-process.result.now in
     let ps = c.args.world.now.processes.items in
     let made = made_at ps c.args.event.process x c.requires.made c.index_mut-process.ensures.value in
     subst (λ (processes : List ProcessState). IfOk c.follow.result (λ done. DoesAs (programs_of_plan c.args.task.now)
     (world_with (g.T.Tree.nodes c.args.world.now.tree) (open_files c.args.world.now.files) processes) (event_of c.args.event)
     (result_of done.outcome) (effects_in (g.T.Tree.nodes c.follow.new.world.tree) done.effects) (world_of g.T.Tree.nodes c.follow.new.world)))
-    (ap (slice_set ps c.args.event.process) (c.take_deed.ensures.left ∙ ap (λ o. record x { kept = o }) c.in_default.ensures.taken)
-    ∙ put_back ps c.args.event.process x made)
+    (put_back ps c.args.event.process x made)
     c.follow.ensures.does
 
 pub execute-requires : goal.execute-requires

@@ -2,8 +2,8 @@ use Rattle.std.proofs.Common.{◌≡◌, ◌+◌, ◌%◌, ◌/◌, [], ◌∷�
 use Rattle.std.specs.Prelude.{OnOk}
 use Rattle.std.specs.Fmt.{decimal}
 use Rattle.simulator.proofs.Digits.{last_two, one_digit, only_two}
-use Rattle.simulator.proofs.trace.+push_number.Goals as goal
-use Rattle.simulator.proofs.trace.+push_number.Goals.{then-number-ge100+in_ok-push_number, else-number-ge100}
+use Rattle.simulator.proofs.trace.+push_digits.Goals as goal
+use Rattle.simulator.proofs.trace.+push_digits.Goals.{then-number-ge100+in_ok-push_digits, else-number-ge100}
 
 pub returns-then-number-lt10-clause-line : goal.returns-then-number-lt10-clause-line
 returns-then-number-lt10-clause-line t c =
@@ -16,8 +16,8 @@ returns-clause-line t c =
     let so_far = c.if-number-ge100.page.line in
     let digits : so_far ++ (48 + n / 10 % 10) ∷ (48 + n % 10) ∷ [] ≡ before ++ decimal n =
     elim c.if-number-ge100.branch [
-      | then-number-ge100+in_ok-push_number w ↦
-          last_two n before so_far w.if-number-ge100.true (omega arith) (ap (λ p. p.line) w.page-is ∙ w.in_ok-push_number.ensures.line)
+      | then-number-ge100+in_ok-push_digits w ↦
+          last_two n before so_far w.if-number-ge100.true (omega arith) (ap (λ p. p.line) w.page-is ∙ w.in_ok-push_digits.ensures.line)
       | else-number-ge100 w ↦ only_two n before so_far c.if-number-lt10.false w.if-number-ge100.false (ap (λ p. p.line) w.page-is)
     ]
     in
