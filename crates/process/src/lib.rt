@@ -97,12 +97,24 @@ impl Process {
         self.mode = true;
     }
 
+    /// Forgets the call that is under way.
+    #[cold]
+    #[inline(never)]
+    fn forget_walk(&mut self)
+        ensures { self.new ≡ moved_to self.old self.old.point }
+    {
+        self.walk = None;
+    }
+
     /// Goes to another point, where no call is under way yet.
+    #[inline(always)]
     pub fn move_to(&mut self, point: u8)
         ensures { self.new ≡ moved_to self.old point }
     {
         self.point = point;
-        self.walk = None;
+        if self.walk.is_some() {
+            self.forget_walk();
+        }
     }
 
     /// Goes on to the next point.

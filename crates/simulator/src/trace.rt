@@ -21,7 +21,7 @@ use std::alloc::AllocError;
 use syscalls::Effects;
 use task::Task;
 
-/// Appends a number in decimal, two digits at once.
+/// Appends a number in decimal, three digits at once.
 fn push_digits(page: &mut Page, number: u32) -> Result<(), AllocError>
     ensures lines { page.new.lines ≡ page.old.lines }
     ensures line { OnOk result (page.new.line ≡ page.old.line ++ decimal number) }
@@ -29,10 +29,18 @@ fn push_digits(page: &mut Page, number: u32) -> Result<(), AllocError>
     if number < 10 {
         return page.push(b'0' + number as u8);
     }
-    if number >= 100 {
-        push_digits(page, number / 100)?;
+    let tens = number / 10;
+    let last = b'0' + (number - tens * 10) as u8;
+    if number < 100 {
+        return page.append_word(&[b'0' + tens as u8, last]);
     }
-    page.append_word(&[b'0' + (number / 10 % 10) as u8, b'0' + (number % 10) as u8])
+    let hundreds = tens / 10;
+    let middle = b'0' + (tens - hundreds * 10) as u8;
+    if number < 1000 {
+        return page.append_word(&[b'0' + hundreds as u8, middle, last]);
+    }
+    push_digits(page, hundreds)?;
+    page.append_word(&[middle, last])
 }
 
 /// Appends a number in decimal. Most have one digit, and need no call.

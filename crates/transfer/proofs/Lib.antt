@@ -4,3 +4,5 @@ pub mod Keeping
 pub mod EachTested
 pub mod Known
 pub mod Failures
+pub mod NothingPassed
+pub mod Stepping

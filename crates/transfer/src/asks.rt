@@ -54,12 +54,14 @@ fn rest_pass<T: SlotTest>(slots: &[Slot], number: u8, interval: Interval, test: 
     ensures { result ≡ list_all (T.passes test.now)
         (slots_from number (interval_of interval) (map slot_of slots.now)) }
 {
-    match slots {
-        [] => true,
-        [slot, rest @ ..] => {
-            one_passes(slot, number, interval, test) && rest_pass(rest, number + 1, interval, test)
+    let mut number = number;
+    for slot in slots {
+        if !one_passes(slot, number, interval, test) {
+            return false;
         }
+        number += 1;
     }
+    true
 }
 
 /// Whether each slot passes that an operand may name.
@@ -88,7 +90,7 @@ impl<'a, T: UseTest> SlotTest for Asked<'a, T> {
 }
 
 /// Whether each slot passes of an operand that a call goes through, if it does.
-fn through_passes<T: UseTest>(bound: &Bound, through: &Option<Through>, test: &T) -> bool
+pub(crate) fn through_passes<T: UseTest>(bound: &Bound, through: &Option<Through>, test: &T) -> bool
     ensures { result ≡ list_all (T.passes test.now)
         (uses_through (bound_of bound.now) (option_map through_of through.now)) }
 {

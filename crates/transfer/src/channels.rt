@@ -6,10 +6,11 @@ ghost use Rattle.rights.specs.Views.{side_seen};
 ghost use Rattle.certificate.specs.Views.{bound_of, channel_of, channels_of, class_of, target_of};
 ghost use Rattle.instruction_set.specs.Views.{syscall_of};
 ghost use Rattle.rules.specs.Channels.{all_have_channels, channel_at, has_channel, line_in, receives_known, sends_known};
-ghost use Rattle.rules.specs.Uses.{uses};
+ghost use Rattle.rules.specs.Uses.{uses, uses_through};
+ghost use Rattle.transfer.specs.Views.{through_of};
 
-use crate::asks::{UseTest, all_uses_pass};
-use crate::uses::{Need, Passed};
+use crate::asks::{UseTest, through_passes};
+use crate::uses::{Need, Needs, Passed, Through, needed};
 use certificate::{Bound, Cert, Channel, Class, Held, Side, Target};
 use instruction_set::Syscall;
 
@@ -77,9 +78,26 @@ impl<'a> UseTest for HasChannel<'a> {
     }
 }
 
+/// Whether the channels are known that a call uses by an operand, if it goes through one. Where nothing is passed, no slot is looked at.
+fn through_has_channels(cert: &Cert, bound: &Bound, through: &Option<Through>) -> bool
+    ensures { result ≡ all_have_channels cert.now (uses_through (bound_of bound.now) (option_map through_of through.now)) }
+{
+    match through {
+        None => true,
+        Some(used) => match used.need.passed {
+            Passed::Nothing => true,
+            Passed::Sent(_) | Passed::Received => {
+                through_passes(bound, through, &HasChannel { cert })
+            }
+        },
+    }
+}
+
 /// Whether the channels are known that a call uses. (own, after sendmsg(2) and recvmsg(2))
 pub fn all_have_channels(cert: &Cert, bound: &Bound, call: &Syscall) -> bool
     ensures { result ≡ all_have_channels cert.now (uses (bound_of bound.now) (syscall_of call.now)) }
 {
-    all_uses_pass(bound, call, &HasChannel { cert })
+    let needs = needed(call);
+    through_has_channels(cert, bound, &needs.first)
+        && through_has_channels(cert, bound, &needs.second)
 }

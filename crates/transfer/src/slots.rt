@@ -67,14 +67,15 @@ fn one_from(slots: &[Slot], number: u8) -> Option<FreeNumbers>
     ensures numbers { option_map free_of result ≡ free_from 1 number (map slot_of slots.now) }
     ensures few { IfSome result (λ found. length (free_of found) ≤ 1) }
 {
-    match slots {
-        [] => Some(FreeNumbers::None),
-        [slot, rest @ ..] => match slot {
-            Slot::Closed => Some(FreeNumbers::One(number)),
-            Slot::Open(_) => one_from(rest, number + 1),
-            Slot::Maybe(_) => None,
-        },
+    let mut number = number;
+    for slot in slots {
+        match slot {
+            Slot::Closed => return Some(FreeNumbers::One(number)),
+            Slot::Open(_) => number += 1,
+            Slot::Maybe(_) => return None,
+        }
     }
+    Some(FreeNumbers::None)
 }
 
 /// This number before the others, of which there is at most one.

@@ -1,13 +1,14 @@
 //! Where an instruction may lead from a point with a bound, but for errors: each outcome is asked about, and none is kept.
 
-ghost use Rattle.std.specs.Prelude.{◌≡◌, ◌+◌, ◌≤◌, ℕ, Bool, Option, true, length, map};
+ghost use Rattle.std.specs.Prelude.{◌≡◌, ◌+◌, ◌≤◌, ℕ, Bool, Option, true, length, map, option_map};
 ghost use Rattle.std.specs.List.{flat_map};
 ghost use Rattle.certificate.specs.Bounds.{Bound as BoundSeen, with_interval, with_slot};
 ghost use Rattle.certificate.specs.Views.{bound_of, held_of, interval_of, slot_of, target_of};
 ghost use Rattle.instruction_set.specs.Views.{operand_of};
 ghost use Rattle.rules.specs.Outcomes.{Outcome as OutcomeSeen, outcome_to};
 ghost use Rattle.rules.specs.Intervals.{only};
-ghost use Rattle.rules.specs.Slots.{slots_from, slots_in};
+ghost use Rattle.rules.specs.Slots.{free_numbers, slots_from, slots_in};
+ghost use Rattle.transfer.specs.Views.{free_of};
 ghost use Rattle.transfer.specs.Kept.{TestsEach, kept_with};
 ghost use Rattle.transfer.specs.OutcomeViews.{bound_changed, outcome_of};
 ghost use Rattle.transfer.specs.SiteViews.{acted, left_by_limit, received_at, taken_at};
@@ -94,12 +95,36 @@ pub(crate) fn next_passes<T: OutcomeVisitor>(
     })
 }
 
+/// What a call does with each slot that it goes through, and the lowest free number, which is looked for one time.
+#[derive(Clone, Copy)]
+struct Acting<'a> {
+    site: &'a Site<'a>,
+    act: Act,
+    free: Option<FreeNumbers>,
+    ghost lowest: { option_map free_of free ≡ free_numbers 1 (bound_of site.now.bound.now) },
+}
+
 /// Whether the outcome passes where the lowest free number is taken for what is held, if one is free.
 pub(crate) fn taken_passes<T: OutcomeVisitor>(site: &Site<'_>, held: &Held, visitor: &mut T) -> bool
     ensures { TestsEach T.passes T.joins T.kept visitor.old visitor.new result
         (taken_at site.now (held_of held.now)) }
 {
-    match free_numbers(Takes::One, site.bound) {
+    let free = free_numbers(Takes::One, site.bound);
+    free_passes(site, &free, held, visitor)
+}
+
+/// The same, where the lowest free number is this.
+fn free_passes<T: OutcomeVisitor>(
+    site: &Site<'_>,
+    free: &Option<FreeNumbers>,
+    held: &Held,
+    visitor: &mut T,
+) -> bool
+    requires { option_map free_of free.now ≡ free_numbers 1 (bound_of site.now.bound.now) }
+    ensures { TestsEach T.passes T.joins T.kept visitor.old visitor.new result
+        (taken_at site.now (held_of held.now)) }
+{
+    match *free {
         None | Some(FreeNumbers::None) => true,
         Some(FreeNumbers::One(number) | FreeNumbers::Two(number, _)) => {
             let change = Change::Slot {
@@ -126,20 +151,21 @@ fn slot_passes<T: OutcomeVisitor>(site: &Site<'_>, number: u8, slot: Slot, visit
 }
 
 /// Whether the outcome passes of what comes from a channel, or from an end of unknown kind.
-fn received_passes<T: OutcomeVisitor>(site: &Site<'_>, target: &Target, visitor: &mut T) -> bool
+fn received_passes<T: OutcomeVisitor>(acting: &Acting<'_>, target: &Target, visitor: &mut T) -> bool
     ensures { TestsEach T.passes T.joins T.kept visitor.old visitor.new result
-        (received_at site.now (target_of target.now)) }
+        (received_at acting.now.site.now (target_of target.now)) }
 {
+    let site = acting.site;
     match target {
         Target::InGrant(_) | Target::AnyNode => true,
         Target::Socket(class, side) => match channel_at(site.cert, class, side.other()) {
             None => true,
             Some(channel) => match channel.sends() {
                 None => true,
-                Some(held) => taken_passes(site, &held, visitor),
+                Some(held) => free_passes(site, &acting.free, &held, visitor),
             },
         },
-        Target::Unknown => taken_passes(site, &unknown_held(), visitor),
+        Target::Unknown => free_passes(site, &acting.free, &unknown_held(), visitor),
     }
 }
 
@@ -155,22 +181,22 @@ fn limited(held: &Held, limit: Limit) -> Held
 
 /// Whether the outcome passes of what a call does with this slot.
 fn acted_passes<T: OutcomeVisitor>(
-    site: &Site<'_>,
-    act: Act,
+    acting: &Acting<'_>,
     number: u8,
     held: &Held,
     visitor: &mut T,
 ) -> bool
     ensures { TestsEach T.passes T.joins T.kept visitor.old visitor.new result
-        (acted site.now act (record { number = number; held = held_of held.now })) }
+        (acted acting.now.site.now acting.now.act (record { number = number; held = held_of held.now })) }
 {
-    match act {
+    let site = acting.site;
+    match acting.act {
         Act::Opens => match beneath_target(&held.target()) {
             None => true,
-            Some(target) => taken_passes(site, &with_target(held, target), visitor),
+            Some(target) => free_passes(site, &acting.free, &with_target(held, target), visitor),
         },
-        Act::Receives => received_passes(site, &held.target(), visitor),
-        Act::Copies => taken_passes(site, held, visitor),
+        Act::Receives => received_passes(acting, &held.target(), visitor),
+        Act::Copies => free_passes(site, &acting.free, held, visitor),
         Act::Closes => slot_passes(site, number, Slot::Closed, visitor),
         Act::Limits(limit) => {
             let slot = Slot::Open(limited(held, limit));
@@ -181,28 +207,26 @@ fn acted_passes<T: OutcomeVisitor>(
 
 /// Whether the outcome passes of what a call does with a slot, if it may be open and its number is in the interval.
 fn one_passes<T: OutcomeVisitor>(
-    site: &Site<'_>,
-    act: Act,
+    acting: &Acting<'_>,
     slot: &Slot,
     number: u8,
     interval: Interval,
     visitor: &mut T,
 ) -> bool
     ensures { TestsEach T.passes T.joins T.kept visitor.old visitor.new result
-        (flat_map (acted site.now act) (slot_at number (interval_of interval) (slot_of slot.now))) }
+        (flat_map (acted acting.now.site.now acting.now.act) (slot_at number (interval_of interval) (slot_of slot.now))) }
 {
     match slot {
         Slot::Closed => true,
         Slot::Open(held) | Slot::Maybe(held) => {
-            !holds_number(interval, number) || acted_passes(site, act, number, held, visitor)
+            !holds_number(interval, number) || acted_passes(acting, number, held, visitor)
         }
     }
 }
 
 /// Whether the outcomes pass of what a call does with each slot from this number on.
 fn rest_pass<T: OutcomeVisitor>(
-    site: &Site<'_>,
-    act: Act,
+    acting: &Acting<'_>,
     slots: &[Slot],
     number: u8,
     interval: Interval,
@@ -210,13 +234,13 @@ fn rest_pass<T: OutcomeVisitor>(
 ) -> bool
     requires { number + length slots.now ≤ 16 }
     ensures { TestsEach T.passes T.joins T.kept visitor.old visitor.new result
-        (flat_map (acted site.now act) (slots_from number (interval_of interval) (map slot_of slots.now))) }
+        (flat_map (acted acting.now.site.now acting.now.act) (slots_from number (interval_of interval) (map slot_of slots.now))) }
 {
     match slots {
         [] => true,
         [slot, rest @ ..] => {
-            one_passes(site, act, slot, number, interval, visitor)
-                && rest_pass(site, act, rest, number + 1, interval, visitor)
+            one_passes(acting, slot, number, interval, visitor)
+                && rest_pass(acting, rest, number + 1, interval, visitor)
         }
     }
 }
@@ -232,6 +256,12 @@ pub(crate) fn all_pass<T: OutcomeVisitor>(
     ensures { TestsEach T.passes T.joins T.kept visitor.old visitor.new result
         (flat_map (acted site.now act) (slots_in (bound_of site.now.bound.now) (operand_of operand))) }
 {
+    let free = free_numbers(Takes::One, site.bound);
+    let acting = &Acting {
+        site: &*site,
+        act,
+        free,
+    };
     let interval = operand_interval(site.bound, operand);
-    rest_pass(site, act, site.bound.slots(), 0, interval, visitor)
+    rest_pass(acting, site.bound.slots(), 0, interval, visitor)
 }

@@ -1,5 +1,5 @@
-use Rattle.std.proofs.Common.{rules, ap, sym, ◌∙◌, map, subst}
-use Rattle.std.specs.Prelude.{IfOk, option_map, Result, Ok, Err}
+use Rattle.std.proofs.Common.{ap, sym, ◌∙◌, map, subst}
+use Rattle.std.specs.Prelude.{IfOk, option_map}
 use Rattle.certificate.specs.Views.{bound_of}
 use Rattle.instruction_set.specs.Views.{operand_of}
 use Rattle.rules.specs.Slots.{slots_in}

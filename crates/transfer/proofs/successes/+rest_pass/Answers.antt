@@ -11,7 +11,7 @@ use Rattle.transfer.proofs.successes.+rest_pass.Goals as goal
 pub returns-then-one_passes : goal.returns-then-one_passes
 returns-then-one_passes g t c =
     let test = g.T.OutcomeVisitor in
-    let leads = acted c.args.site.now c.args.act in
+    let leads = acted c.args.acting.now.site.now c.args.acting.now.act in
     let values = interval_of c.args.interval in
     let split = first_slot leads c.args.number values c.args.slots.now c.slot-item.result c.in-len1-up.len_at_least c.slot-item.is in
     subst (λ outcomes. TestsEach test.passes test.joins test.kept c.args.visitor.now c.rest_pass.new.visitor c.rest_pass.result outcomes) (sym split)
@@ -23,7 +23,7 @@ returns-then-one_passes g t c =
 pub returns-else-one_passes : goal.returns-else-one_passes
 returns-else-one_passes g t c =
     let test = g.T.OutcomeVisitor in
-    let leads = acted c.args.site.now c.args.act in
+    let leads = acted c.args.acting.now.site.now c.args.acting.now.act in
     let values = interval_of c.args.interval in
     let split = first_slot leads c.args.number values c.args.slots.now c.slot-item.result c.in-len1-up.len_at_least c.slot-item.is in
     subst (λ outcomes. TestsEach test.passes test.joins test.kept c.args.visitor.now c.one_passes.new.visitor c.one_passes.result outcomes) (sym split)
