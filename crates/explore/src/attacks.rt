@@ -13,8 +13,9 @@ use rights::limits::MAX_DESCRIPTORS;
 use rights::{Memory, OpenFlags, Rights};
 use std::alloc::Global;
 use std::marker::Model;
+use std::mem;
 use syscalls::Event;
-use task::Task;
+use task::{Task, none_marked};
 
 /// How many names of the tree are tried.
 const MAX_NAMES: usize = 24;
@@ -77,12 +78,12 @@ impl<'a> Move<'a> {
     }
 }
 
-/// The deeds that are tried by a descriptor: on nodes, on ends of socket pairs, and what limits it.
+/// The deeds that are tried by a descriptor: those of any, those on names beneath a directory, and what limits it.
 #[derive(Drop)]
-struct ByNumber {
-    on_nodes: Vec<Deed>,
-    on_ends: Vec<Deed>,
-    limits: Vec<Deed>,
+pub(crate) struct ByNumber {
+    pub plain: Vec<Deed>,
+    pub named: Vec<Deed>,
+    pub limits: Vec<Deed>,
 }
 
 /// The deeds that are tried, by the number of the descriptor by which they go.
@@ -91,262 +92,202 @@ pub struct Deeds {
     by_number: Vec<ByNumber>,
 }
 
+/// What is tried of a name beneath a directory.
+#[derive(Clone, Copy)]
+enum OnName {
+    Open(OpenFlags),
+    Look,
+    Make,
+    Remove { directory: bool },
+}
+
+/// The deeds by the descriptor of a number, as they grow. Where memory is refused, one is left out, and that is noted.
+#[derive(Drop)]
+struct Growing {
+    alloc: Global,
+    number: u32,
+    deeds: Vec<Deed>,
+    is_short: bool,
+}
+
+impl Growing {
+    /// Adds a call.
+    fn add(&mut self, call: Syscall) {
+        let instruction = Instruction::Invoke { call, otherwise: 0 };
+        let is_added = match Deed::new(self.alloc, &instruction) {
+            Ok(deed) => self.deeds.push(deed).is_ok(),
+            Err(_) => false,
+        };
+        self.is_short = self.is_short || !is_added;
+    }
+
+    /// Those that were added since the last time.
+    fn take(&mut self) -> Vec<Deed> {
+        mem::replace(&mut self.deeds, Vec::new(self.alloc))
+    }
+
+    /// The path of a name, if it is one that a program may have, and there is memory for it.
+    fn path(&mut self, name: &[u8]) -> Option<Path> {
+        let Ok(bytes) = Vec::from_slice(self.alloc, name) else {
+            self.is_short = true;
+            return None;
+        };
+        if is_valid_path(&bytes) {
+            return Some(Path::new(bytes));
+        }
+        None
+    }
+
+    /// Adds a call on a name beneath a directory.
+    fn add_on(&mut self, name: &[u8], what: OnName) {
+        let Some(path) = self.path(name) else {
+            return;
+        };
+        let descriptor = Operand::Number(self.number);
+        match what {
+            OnName::Open(flags) => self.add(Syscall::Openat {
+                descriptor,
+                path,
+                flags,
+            }),
+            OnName::Look => self.add(Syscall::Fstatat { descriptor, path }),
+            OnName::Make => self.add(Syscall::Mkdirat { descriptor, path }),
+            OnName::Remove { directory } => self.add(Syscall::Unlinkat {
+                descriptor,
+                path,
+                directory,
+            }),
+        }
+    }
+
+    /// Adds an open of a name.
+    fn add_open(&mut self, name: &[u8], flags: Option<OpenFlags>) {
+        if let Some(flags) = flags {
+            self.add_on(name, OnName::Open(flags));
+        }
+    }
+
+    /// Adds the move of a name to a new one, beneath the directory of another number.
+    fn add_move(&mut self, name: &[u8], target: u32) {
+        if let (Some(path), Some(new_path)) = (self.path(name), self.path(NEW_NAME)) {
+            self.add(Syscall::Renameat {
+                descriptor: Operand::Number(self.number),
+                path,
+                target: Operand::Number(target),
+                new_path,
+            });
+        }
+    }
+
+    /// Adds what may be tried of a name that is there.
+    fn add_name(&mut self, name: &[u8]) {
+        self.add_open(name, OpenFlags::new(true, false, false, false, false));
+        self.add_open(name, OpenFlags::new(false, true, true, false, false));
+        self.add_open(name, OpenFlags::new(false, true, false, false, true));
+        self.add_on(name, OnName::Look);
+        self.add_on(name, OnName::Remove { directory: false });
+        self.add_on(name, OnName::Remove { directory: true });
+        for target in 0..MAX_DESCRIPTORS as u32 {
+            self.add_move(name, target);
+        }
+    }
+
+    /// Adds what may be tried of a file or directory, of an end of a socket pair, or of both.
+    fn add_plain(&mut self, bytes: &[u8]) {
+        let number = self.number;
+        self.add(Syscall::Read {
+            descriptor: Operand::Number(number),
+        });
+        self.add(Syscall::Recvfd {
+            descriptor: Operand::Number(number),
+        });
+        self.add(Syscall::Fstat {
+            descriptor: Operand::Number(number),
+        });
+        for byte in bytes {
+            self.add(Syscall::Write {
+                descriptor: Operand::Number(number),
+                value: Operand::Number(u32::from(*byte)),
+            });
+        }
+        for sent in 0..MAX_DESCRIPTORS as u32 {
+            self.add(Syscall::Sendfd {
+                descriptor: Operand::Number(number),
+                sent: Operand::Number(sent),
+                value: Operand::Number(0),
+            });
+        }
+        self.add(Syscall::Ftruncate {
+            descriptor: Operand::Number(number),
+            len: Operand::Number(0),
+        });
+    }
+}
+
 /// The last names of some nodes of a task's tree, each once.
-fn names_to_try(alloc: Global, task: &Task) -> Result<Vec<Vec<u8>>, Memory> {
-    let mut names: Vec<Vec<u8>> = Vec::new(alloc);
+fn names_to_try(alloc: Global, task: &Task) -> Result<Vec<&[u8]>, Memory> {
+    let mut names = Vec::new(alloc);
     for node in task.nodes() {
         if names.len() >= MAX_NAMES {
             break;
         }
         if let Some(name) = node.place.name() {
-            if !names.iter().any(|known| known.as_slice() == name) {
-                names.push(Vec::from_slice(alloc, name)?)?;
+            if !names.contains(&name) {
+                names.push(name)?;
             }
         }
     }
     Ok(names)
 }
 
-/// The path of a name, if it is one that a program may have.
-fn path_of(alloc: Global, name: &[u8]) -> Result<Option<Path>, Memory> {
-    let bytes = Vec::from_slice(alloc, name)?;
-    if !is_valid_path(&bytes) {
-        return Ok(None);
-    }
-    Ok(Some(Path::new(bytes)))
-}
-
-/// Adds a call.
-fn add_call(deeds: &mut Vec<Deed>, alloc: Global, call: Syscall) -> Result<(), Memory> {
-    let instruction = Instruction::Invoke { call, otherwise: 0 };
-    deeds.push(Deed::new(alloc, &instruction)?)?;
-    Ok(())
-}
-
-/// What may be tried of an end of a socket pair.
-fn on_ends(alloc: Global, number: u32, bytes: &[u8]) -> Result<Vec<Deed>, Memory> {
-    let mut deeds = Vec::new(alloc);
-    let read = Syscall::Read {
-        descriptor: Operand::Number(number),
+/// What may be tried by the descriptor of a number, whatever it is of; of limits that it leaves nothing, or writing alone.
+fn deeds_by(alloc: Global, number: u32, names: &[&[u8]], bytes: &[u8]) -> Result<ByNumber, Memory> {
+    let mut growing = Growing {
+        alloc,
+        number,
+        deeds: Vec::new(alloc),
+        is_short: false,
     };
-    add_call(&mut deeds, alloc, read)?;
-    let receive = Syscall::Recvfd {
-        descriptor: Operand::Number(number),
-    };
-    add_call(&mut deeds, alloc, receive)?;
-    for byte in bytes {
-        let write = Syscall::Write {
-            descriptor: Operand::Number(number),
-            value: Operand::Number(u32::from(*byte)),
-        };
-        add_call(&mut deeds, alloc, write)?;
-    }
-    for sent in 0..MAX_DESCRIPTORS as u32 {
-        let send = Syscall::Sendfd {
-            descriptor: Operand::Number(number),
-            sent: Operand::Number(sent),
-            value: Operand::Number(0),
-        };
-        add_call(&mut deeds, alloc, send)?;
-    }
-    Ok(deeds)
-}
-
-/// Adds a limit.
-fn add_limit(
-    deeds: &mut Vec<Deed>,
-    alloc: Global,
-    number: u32,
-    rights: Rights,
-) -> Result<(), Memory> {
-    let limit = Syscall::CapRightsLimit {
-        descriptor: Operand::Number(number),
-        rights,
-    };
-    add_call(deeds, alloc, limit)
-}
-
-/// What may be tried of a limit: that it leaves nothing, or writing alone.
-fn limits(alloc: Global, number: u32) -> Result<Vec<Deed>, Memory> {
-    let mut deeds = Vec::new(alloc);
-    add_limit(&mut deeds, alloc, number, Rights::empty())?;
-    add_limit(&mut deeds, alloc, number, Rights::WRITE)?;
-    Ok(deeds)
-}
-
-/// Adds an open of a name.
-fn add_open(
-    deeds: &mut Vec<Deed>,
-    alloc: Global,
-    number: u32,
-    name: &[u8],
-    flags: Option<OpenFlags>,
-) -> Result<(), Memory> {
-    if let (Some(path), Some(flags)) = (path_of(alloc, name)?, flags) {
-        let open = Syscall::Openat {
-            descriptor: Operand::Number(number),
-            path,
-            flags,
-        };
-        add_call(deeds, alloc, open)?;
-    }
-    Ok(())
-}
-
-/// Adds the removal of a name, as a directory or not.
-fn add_removal(
-    deeds: &mut Vec<Deed>,
-    alloc: Global,
-    number: u32,
-    name: &[u8],
-    directory: bool,
-) -> Result<(), Memory> {
-    if let Some(path) = path_of(alloc, name)? {
-        let unlink = Syscall::Unlinkat {
-            descriptor: Operand::Number(number),
-            path,
-            directory,
-        };
-        add_call(deeds, alloc, unlink)?;
-    }
-    Ok(())
-}
-
-/// Adds a look at a name.
-fn add_look(deeds: &mut Vec<Deed>, alloc: Global, number: u32, name: &[u8]) -> Result<(), Memory> {
-    if let Some(path) = path_of(alloc, name)? {
-        let look = Syscall::Fstatat {
-            descriptor: Operand::Number(number),
-            path,
-        };
-        add_call(deeds, alloc, look)?;
-    }
-    Ok(())
-}
-
-/// Adds the move of a name to a new one, beneath the directory of another number.
-fn add_move(
-    deeds: &mut Vec<Deed>,
-    alloc: Global,
-    number: u32,
-    name: &[u8],
-    target: u32,
-) -> Result<(), Memory> {
-    if let (Some(path), Some(new_path)) = (path_of(alloc, name)?, path_of(alloc, NEW_NAME)?) {
-        let rename = Syscall::Renameat {
-            descriptor: Operand::Number(number),
-            path,
-            target: Operand::Number(target),
-            new_path,
-        };
-        add_call(deeds, alloc, rename)?;
-    }
-    Ok(())
-}
-
-/// Adds what may be tried of a name beneath a directory.
-fn add_named(deeds: &mut Vec<Deed>, alloc: Global, number: u32, name: &[u8]) -> Result<(), Memory> {
-    let reading = OpenFlags::new(true, false, false, false, false);
-    add_open(deeds, alloc, number, name, reading)?;
-    let appending = OpenFlags::new(false, true, true, false, false);
-    add_open(deeds, alloc, number, name, appending)?;
-    let emptying = OpenFlags::new(false, true, false, false, true);
-    add_open(deeds, alloc, number, name, emptying)?;
-    add_look(deeds, alloc, number, name)?;
-    add_removal(deeds, alloc, number, name, false)?;
-    add_removal(deeds, alloc, number, name, true)?;
-    for target in 0..MAX_DESCRIPTORS as u32 {
-        add_move(deeds, alloc, number, name, target)?;
-    }
-    Ok(())
-}
-
-/// Adds what makes a new name beneath a directory.
-fn add_new(deeds: &mut Vec<Deed>, alloc: Global, number: u32) -> Result<(), Memory> {
-    let creating = OpenFlags::new(false, true, true, true, false);
-    add_open(deeds, alloc, number, NEW_NAME, creating)?;
-    if let Some(path) = path_of(alloc, NEW_NAME)? {
-        let make = Syscall::Mkdirat {
-            descriptor: Operand::Number(number),
-            path,
-        };
-        add_call(deeds, alloc, make)?;
-    }
-    Ok(())
-}
-
-/// Adds what may be tried of a file or a directory without a name.
-fn add_plain(deeds: &mut Vec<Deed>, alloc: Global, number: u32) -> Result<(), Memory> {
-    let read = Syscall::Read {
-        descriptor: Operand::Number(number),
-    };
-    add_call(deeds, alloc, read)?;
-    let look = Syscall::Fstat {
-        descriptor: Operand::Number(number),
-    };
-    add_call(deeds, alloc, look)?;
-    let write = Syscall::Write {
-        descriptor: Operand::Number(number),
-        value: Operand::Number(0),
-    };
-    add_call(deeds, alloc, write)?;
-    let cut = Syscall::Ftruncate {
-        descriptor: Operand::Number(number),
-        len: Operand::Number(0),
-    };
-    add_call(deeds, alloc, cut)
-}
-
-/// What may be tried of a file or a directory.
-fn on_nodes(alloc: Global, number: u32, names: &[Vec<u8>]) -> Result<Vec<Deed>, Memory> {
-    let mut deeds = Vec::new(alloc);
-    add_plain(&mut deeds, alloc, number)?;
-    add_new(&mut deeds, alloc, number)?;
+    growing.add_plain(bytes);
+    let plain = growing.take();
+    growing.add_open(NEW_NAME, OpenFlags::new(false, true, true, true, false));
+    growing.add_on(NEW_NAME, OnName::Make);
     for name in names {
-        add_named(&mut deeds, alloc, number, name)?;
+        growing.add_name(name);
     }
-    Ok(deeds)
+    let named = growing.take();
+    for rights in [Rights::empty(), Rights::WRITE] {
+        growing.add(Syscall::CapRightsLimit {
+            descriptor: Operand::Number(number),
+            rights,
+        });
+    }
+    if growing.is_short {
+        return Err(Memory);
+    }
+    Ok(ByNumber {
+        plain,
+        named,
+        limits: growing.deeds,
+    })
 }
 
 impl Deeds {
     /// What attackers of a task may try; nothing where no program is untrusted.
     pub fn new(alloc: Global, task: &Task) -> Result<Deeds, Memory> {
         let mut by_number = Vec::new(alloc);
-        if task.programs().iter().any(|named| named.untrusted) {
+        if !none_marked(task.programs()) {
             let names = names_to_try(alloc, task)?;
             let bytes = bytes_to_try(alloc, task)?;
             for number in 0..MAX_DESCRIPTORS as u32 {
-                by_number.push(ByNumber {
-                    on_nodes: on_nodes(alloc, number, &names)?,
-                    on_ends: on_ends(alloc, number, &bytes)?,
-                    limits: limits(alloc, number)?,
-                })?;
+                by_number.push(deeds_by(alloc, number, &names, &bytes)?)?;
             }
         }
         Ok(Deeds { by_number })
     }
 
-    /// Those on nodes by the descriptor of a number.
-    pub(crate) fn on_nodes(&self, number: usize) -> &[Deed] {
-        match self.by_number.get(number) {
-            None => &[],
-            Some(row) => &row.on_nodes,
-        }
-    }
-
-    /// Those on ends of socket pairs.
-    pub(crate) fn on_ends(&self, number: usize) -> &[Deed] {
-        match self.by_number.get(number) {
-            None => &[],
-            Some(row) => &row.on_ends,
-        }
-    }
-
-    /// Those that limit it.
-    pub(crate) fn limits(&self, number: usize) -> &[Deed] {
-        match self.by_number.get(number) {
-            None => &[],
-            Some(row) => &row.limits,
-        }
+    /// Those by the descriptor of a number, if some are tried.
+    pub(crate) fn by(&self, number: u8) -> Option<&ByNumber> {
+        self.by_number.get(number as usize)
     }
 }

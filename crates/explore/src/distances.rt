@@ -31,49 +31,23 @@ fn steps_at(steps: &[u16], point: Option<usize>) -> u16 {
     }
 }
 
-/// Notes for a point that it is a step more than the nearest one that it leads to. Whether it is nearer than before is told.
-fn come_nearer(code: &[Instruction], point: usize, steps: &mut Vec<u16>) -> bool {
-    let successors = successors_at(code, point);
-    let behind = steps_at(steps, successors.next).min(steps_at(steps, successors.other));
-    match steps.get_mut(point) {
-        Some(own) if behind.saturating_add(1) < *own => {
-            *own = behind.saturating_add(1);
-            true
-        }
-        _ => false,
-    }
-}
-
-/// The same for all points of a program.
-fn all_come_nearer(code: &[Instruction], steps: &mut Vec<u16>) -> bool {
+/// Notes for each point of a program that it is a step more than the nearest one that it leads to. Whether one is nearer than before is told.
+fn come_nearer(code: &[Instruction], steps: &mut Vec<u16>) -> bool {
     let mut is_nearer = false;
     for point in 0..code.len() {
-        if come_nearer(code, point, steps) {
-            is_nearer = true;
+        let to = successors_at(code, point);
+        let behind = steps_at(steps, to.next)
+            .min(steps_at(steps, to.other))
+            .saturating_add(1);
+        match steps.get_mut(point) {
+            Some(own) if behind < *own => {
+                *own = behind;
+                is_nearer = true;
+            }
+            _ => {}
         }
     }
     is_nearer
-}
-
-/// A program's points, those that are looked for there, and all others too far.
-fn only_goals(
-    alloc: Global,
-    code: &[Instruction],
-    number: usize,
-    goals: &[Goal],
-) -> Result<Vec<u16>, Memory> {
-    let mut steps = Vec::with_capacity(alloc, code.len())?;
-    for _ in code {
-        steps.push(FAR)?;
-    }
-    for goal in goals {
-        if usize::from(goal.program) == number {
-            if let Some(own) = steps.get_mut(usize::from(goal.point)) {
-                *own = 0;
-            }
-        }
-    }
-    Ok(steps)
 }
 
 impl Distances {
@@ -82,9 +56,18 @@ impl Distances {
         let mut programs = Vec::new(alloc);
         for (number, named) in task.programs().iter().enumerate() {
             let code = named.program.code();
-            let mut steps = only_goals(alloc, code, number, goals)?;
+            let mut steps = Vec::with_capacity(alloc, code.len())?;
+            for _ in code {
+                steps.push(FAR)?;
+            }
+            for goal in goals {
+                match steps.get_mut(usize::from(goal.point)) {
+                    Some(own) if usize::from(goal.program) == number => *own = 0,
+                    _ => {}
+                }
+            }
             for _ in 0..MAX_INSTRUCTIONS {
-                if !all_come_nearer(code, &mut steps) {
+                if !come_nearer(code, &mut steps) {
                     break;
                 }
             }
@@ -97,7 +80,7 @@ impl Distances {
     pub(crate) fn from(&self, program: u8, point: u8) -> u16 {
         match self.programs.get(usize::from(program)) {
             None => FAR,
-            Some(steps) => steps.get(usize::from(point)).copied().unwrap_or(FAR),
+            Some(steps) => steps_at(steps, Some(usize::from(point))),
         }
     }
 }

@@ -11,10 +11,11 @@ use crate::breaches::Breach;
 use crate::breaking::breaks;
 use crate::details::detail_of;
 use crate::distances::Goal;
-use crate::explorer::{Explorer, Progress};
+use crate::explorer::Explorer;
 use crate::shrinking::shrink;
 use rights::Memory;
 use std::alloc::Global;
+use std::mem;
 use syscalls::Event;
 use task::Task;
 
@@ -123,22 +124,6 @@ fn check_found<'a>(
     }))
 }
 
-/// Goes through states in slices, at most so many, and tells the watcher behind each.
-fn go_through<W: Watcher>(
-    explorer: &mut Explorer<'_>,
-    bound: usize,
-    watcher: &mut W,
-) -> Result<Progress, Memory> {
-    for _ in 0..=bound / SLICE {
-        let progress = explorer.go_on(SLICE)?;
-        if !matches!(progress, Progress::Goes) {
-            return Ok(progress);
-        }
-        watcher.tell(explorer.how_far());
-    }
-    Ok(Progress::Bounded)
-}
-
 /// What a search comes to, over at most so many states.
 fn searched<'a, W: Watcher>(
     alloc: Global,
@@ -149,12 +134,22 @@ fn searched<'a, W: Watcher>(
 ) -> Result<Explored<'a>, Memory>
     ensures { IfOk result (IsExplored task.now) }
 {
-    let progress = go_through(explorer, bound, watcher)?;
-    let states = explorer.count();
-    match progress {
-        Progress::Found => check_found(alloc, task, explorer.take_found(), states),
-        Progress::Ended => Ok(Explored::Ended(states)),
-        Progress::Goes | Progress::Bounded => Ok(Explored::Bounded(states)),
+    for turn in 0..=bound {
+        if !explorer.go_on()? {
+            break;
+        }
+        if turn % SLICE == SLICE - 1 {
+            watcher.tell(explorer.how_far());
+        }
+    }
+    let states = explorer.how_far().states;
+    let found = mem::replace(&mut explorer.found, Vec::new(alloc));
+    if !found.is_empty() {
+        check_found(alloc, task, found, states)
+    } else if states < bound {
+        Ok(Explored::Ended(states))
+    } else {
+        Ok(Explored::Bounded(states))
     }
 }
 

@@ -28,17 +28,9 @@ pub(crate) struct Kept<'a> {
 }
 
 impl<'a> Kept<'a> {
-    /// No machine, and no room for one.
-    pub(crate) fn none(alloc: Global) -> Kept<'a> {
-        Kept {
-            slots: Vec::new(alloc),
-        }
-    }
-
     /// Room for machines with trees of so many nodes.
     pub(crate) fn new(alloc: Global, nodes: usize) -> Result<Kept<'a>, Memory> {
-        let nodes = if nodes < MAX_NODES { nodes } else { MAX_NODES };
-        let count = MOST_BYTES / (BYTES + nodes * NODE_BYTES);
+        let count = MOST_BYTES / (BYTES + nodes.min(MAX_NODES) * NODE_BYTES);
         let mut slots = Vec::with_capacity(alloc, count)?;
         for _ in 0..count {
             slots.push(None)?;
@@ -51,22 +43,9 @@ impl<'a> Kept<'a> {
         self.slots.len()
     }
 
-    /// Where the machine of a place is, or would be.
-    fn slot(&mut self, place: usize) -> Option<&mut Option<At<'a>>> {
-        let count = self.slots.len();
-        if count == 0 {
-            return None;
-        }
-        self.slots.get_mut(place % count)
-    }
-
     /// The machine at the state of a place, if it is there.
     pub(crate) fn get(&self, place: usize) -> Option<&Runner<'a>> {
-        let count = self.slots.len();
-        if count == 0 {
-            return None;
-        }
-        match self.slots.get(place % count) {
+        match self.slots.get(place % self.slots.len().max(1)) {
             Some(Some(at)) if at.place == Some(place) => Some(&at.runner),
             _ => None,
         }
@@ -79,7 +58,9 @@ impl<'a> Kept<'a> {
 
     /// Keeps the machine at the state of a place, in the place of another one. What is given then is any machine.
     pub(crate) fn keep(&mut self, place: usize, runner: &mut Runner<'a>) -> Result<(), Memory> {
-        match self.slot(place) {
+        let number = place % self.slots.len().max(1);
+        match self.slots.get_mut(number) {
+            None => {}
             Some(Some(at)) => {
                 mem::swap(&mut at.runner, runner);
                 at.place = Some(place);
@@ -91,24 +72,26 @@ impl<'a> Kept<'a> {
                     runner,
                 });
             }
-            None => {}
         }
         Ok(())
     }
 
-    /// Puts a copy of the machine at the state of a place in the place of another one, if it is there.
-    pub(crate) fn load(&self, place: usize, runner: &mut Runner<'a>) -> Result<(), Memory> {
-        if let Some(kept) = self.get(place) {
-            *runner = kept.copy()?;
+    /// Puts the machine at the state of a place in the place of another one, if it is there: a copy where it stays, and else itself.
+    pub(crate) fn give(
+        &mut self,
+        place: usize,
+        stays: bool,
+        runner: &mut Runner<'a>,
+    ) -> Result<(), Memory> {
+        let number = place % self.slots.len().max(1);
+        match self.slots.get_mut(number) {
+            Some(Some(at)) if stays => *runner = at.runner.copy()?,
+            Some(Some(at)) => {
+                mem::swap(&mut at.runner, runner);
+                at.place = None;
+            }
+            _ => {}
         }
         Ok(())
-    }
-
-    /// Takes the machine at the state of a place away, if it is there.
-    pub(crate) fn take(&mut self, place: usize, runner: &mut Runner<'a>) {
-        if let Some(Some(at)) = self.slot(place) {
-            mem::swap(&mut at.runner, runner);
-            at.place = None;
-        }
     }
 }

@@ -1,10 +1,11 @@
 //! Which files' contents programs may read.
 
 use file_tree::Kind;
-use instruction_set::{Instruction, Path, Syscall};
+use instruction_set::{Instruction, Syscall};
+use lookup::last_name;
 use rights::Memory;
 use std::alloc::Global;
-use task::{FirstObject, Task, node_text};
+use task::{FirstObject, Grant, Task, node_text, none_marked};
 
 /// The last names of the files that a task's programs may read. What others contain, no program can ask.
 #[derive(Drop)]
@@ -12,46 +13,33 @@ pub(crate) struct Readable<'a> {
     names: Vec<&'a [u8]>,
     /// Names may change or lead elsewhere, so that any file may be read.
     any: bool,
-}
-
-/// The last name of a path.
-fn last_name(path: &[u8]) -> &[u8] {
-    path.rsplit(|byte| *byte == b'/').next().unwrap_or(path)
-}
-
-/// The path that an instruction opens to read, if it does.
-fn path_read(instruction: &Instruction) -> Option<&Path> {
-    match instruction {
-        Instruction::Invoke { call, .. } => match call {
-            Syscall::Open { path, flags } if flags.read() => Some(path),
-            Syscall::Openat { path, flags, .. } if flags.read() => Some(path),
-            _ => None,
-        },
-        _ => None,
-    }
-}
-
-/// Whether an instruction may give a file another name.
-fn moves(instruction: &Instruction) -> bool {
-    match instruction {
-        Instruction::Invoke { call, .. } => matches!(call, Syscall::Renameat { .. }),
-        _ => false,
-    }
+    /// The policy, where attackers are to be measured by it.
+    pub policy: &'a [Grant],
 }
 
 impl<'a> Readable<'a> {
     /// What the programs of a task may read.
     pub(crate) fn new(alloc: Global, task: &'a Task) -> Result<Readable<'a>, Memory> {
         let mut names = Vec::new(alloc);
-        let mut any = task
-            .nodes()
-            .iter()
-            .any(|node| matches!(node.kind, Kind::Link));
+        let mut any = false;
+        for node in task.nodes() {
+            any = any || matches!(node.kind, Kind::Link);
+        }
         for named in task.programs() {
             // (an attacker reads and moves what it likes)
-            any = any || named.untrusted || named.program.code().iter().any(moves);
-            for path in named.program.code().iter().filter_map(path_read) {
-                names.push(last_name(path.bytes()))?;
+            any = any || named.untrusted;
+            for instruction in named.program.code() {
+                let Instruction::Invoke { call, .. } = instruction else {
+                    continue;
+                };
+                match call {
+                    Syscall::Renameat { .. } => any = true,
+                    Syscall::Open { path, flags } | Syscall::Openat { path, flags, .. }
+                        if flags.read() && !path.bytes().ends_with(b"/") => {
+                        names.push(last_name(path.bytes()))?
+                    }
+                    _ => {}
+                }
             }
         }
         for start in task.starts() {
@@ -61,11 +49,16 @@ impl<'a> Readable<'a> {
                 }
             }
         }
-        Ok(Readable { names, any })
+        let policy = if none_marked(task.programs()) {
+            &[]
+        } else {
+            task.grants()
+        };
+        Ok(Readable { names, any, policy })
     }
 
     /// Whether a file at this place may be read.
     pub(crate) fn holds(&self, place: &[u8]) -> bool {
-        self.any || self.names.iter().any(|name| *name == last_name(place))
+        self.any || self.names.contains(&last_name(place))
     }
 }

@@ -3,8 +3,9 @@
 use crate::attacks::Move;
 use crate::breaking::watched_step;
 use crate::digests::Digest;
+use crate::readable::Readable;
 use crate::shared_trees::SharedTree;
-use crate::states::{Met, open_at};
+use crate::states::{digest_of, open_at};
 use crate::trees::{TreeDigest, digest_of_tree};
 use fd_table::{Description, Descriptor};
 use file_tree::NodeId;
@@ -40,34 +41,9 @@ pub(crate) enum Advance {
     Stays,
 }
 
-/// The value of an operand.
-pub(crate) fn value_of(process: &Process, operand: Operand) -> u32 {
-    match operand {
-        Operand::Number(number) => number,
-        Operand::Register(register) => process.registers[register.number() as usize],
-    }
-}
-
 /// Whether an effect changes the tree.
 fn changes_tree(effects: &[Effect]) -> bool {
     effects.iter().any(|effect| matches!(effect.op, Op::Write | Op::Create | Op::Remove))
-}
-
-/// The instruction at which a process stands, if it lives and there is one.
-pub(crate) fn instruction_of<'t>(task: &'t Task, process: &Process) -> Option<&'t Instruction> {
-    if !process.alive {
-        return None;
-    }
-    let named = task.programs().get(process.program as usize)?;
-    named.program.code().get(process.point as usize)
-}
-
-/// The call at which a process stands, if it does.
-pub(crate) fn call_of<'t>(task: &'t Task, process: &Process) -> Option<&'t Syscall> {
-    match instruction_of(task, process) {
-        Some(Instruction::Invoke { call, .. }) => Some(call),
-        _ => None,
-    }
 }
 
 impl<'a> Runner<'a> {
@@ -76,12 +52,16 @@ impl<'a> Runner<'a> {
         let Ok(machine) = Machine::start(alloc, task) else {
             return Err(Memory);
         };
-        let tree = Rc::new(alloc, TreeDigest::none(alloc))?;
+        let tree = TreeDigest {
+            whole: Digest::new(),
+            nodes: Vec::new(alloc),
+            grants: Vec::new(alloc),
+        };
         Ok(Runner {
             alloc,
             task,
             machine,
-            tree,
+            tree: Rc::new(alloc, tree)?,
             is_changed: true,
         })
     }
@@ -99,23 +79,62 @@ impl<'a> Runner<'a> {
         })
     }
 
+    /// The process of a number, if it was made.
+    pub(crate) fn process(&self, number: u8) -> Option<&Process> {
+        self.machine.processes().get(number as usize)
+    }
+
+    /// Whether a process may do anything.
+    pub(crate) fn is_hostile(&self, number: u8) -> bool {
+        match self.process(number) {
+            None => false,
+            Some(process) => process.is_hostile(),
+        }
+    }
+
+    /// The instruction at which a process stands, if it lives and there is one.
+    pub(crate) fn instruction(&self, number: u8) -> Option<&'a Instruction> {
+        match self.process(number) {
+            Some(process) if process.alive => {
+                match self.task.programs().get(process.program as usize) {
+                    None => None,
+                    Some(named) => named.program.code().get(process.point as usize),
+                }
+            }
+            _ => None,
+        }
+    }
+
+    /// The call at which a process stands, if it does.
+    pub(crate) fn call(&self, number: u8) -> Option<&'a Syscall> {
+        match self.instruction(number) {
+            Some(Instruction::Invoke { call, .. }) => Some(call),
+            _ => None,
+        }
+    }
+
+    /// The number that an operand of a process stands for, if a descriptor may have it.
+    pub(crate) fn number(&self, process: u8, operand: Operand) -> Option<u8> {
+        let value = match operand {
+            Operand::Number(number) => number,
+            Operand::Register(register) => match self.process(process) {
+                None => return None,
+                Some(state) => state.registers[register.number() as usize],
+            },
+        };
+        u8::try_from(value).ok()
+    }
+
     /// The descriptor that an operand of a process names, and what it is of.
     pub(crate) fn descriptor(
         &self,
         process: u8,
         operand: Operand,
     ) -> Option<(Descriptor, Description)> {
-        let state = self.machine.processes().get(process as usize)?;
-        let number = u8::try_from(value_of(state, operand)).ok()?;
-        open_at(self.machine.files(), process, number)
-    }
-
-    /// Whether a process may do anything.
-    pub(crate) fn has_attacker(&self) -> bool {
-        self.machine
-            .processes()
-            .iter()
-            .any(|process| process.is_hostile())
+        match self.number(process, operand) {
+            None => None,
+            Some(number) => open_at(self.machine.files(), process, number),
+        }
     }
 
     /// Whether the grant in which a node stood when the tree was looked through lists an operation.
@@ -146,12 +165,13 @@ impl<'a> Runner<'a> {
     }
 
     /// The digest of the state.
-    pub(crate) fn digest(&mut self, met: &mut Met<'_>) -> Result<Digest, Memory> {
+    pub(crate) fn digest(&mut self, readable: &Readable<'_>) -> Result<Digest, Memory> {
         if self.is_changed {
-            let tree = digest_of_tree(self.alloc, self.machine.tree(), &met.readable, met.policy)?;
+            let tree = digest_of_tree(self.alloc, self.machine.tree(), readable)?;
             self.tree = Rc::new(self.alloc, tree)?;
             self.is_changed = false;
         }
-        met.digest_of(self.machine.processes(), self.machine.files(), &self.tree)
+        let machine = &self.machine;
+        digest_of(self.alloc, machine.processes(), machine.files(), &self.tree)
     }
 }

@@ -27,14 +27,22 @@ fn shared(alloc: Global, tree: LinkTree) -> Result<Rc<LinkTree>, TreeFault>
     }
 }
 
-/// The same tree once more, to be changed.
-fn own(tree: &LinkTree) -> Result<LinkTree, TreeFault>
-    ensures ok { IfOk result (λ own. own ≡ tree.now) }
-    ensures only_memory { IfErr result (λ e. e ≡ fault.Memory) }
-{
-    match tree.copy() {
-        Ok(own) => Ok(own),
-        Err(_) => Err(TreeFault::Memory),
+impl SharedTree {
+    /// Sees to it that no other machine has its tree.
+    fn make_own(&mut self) -> Result<(), TreeFault>
+        ensures same { self.new.tree.value ≡ self.old.tree.value }
+        ensures only_memory { IfErr result (λ e. e ≡ fault.Memory) }
+    {
+        if Rc::strong_count(&self.tree) == 1 {
+            return Ok(());
+        }
+        match self.tree.copy() {
+            Ok(tree) => {
+                self.tree = shared(self.alloc, tree)?;
+                Ok(())
+            }
+            Err(_) => Err(TreeFault::Memory),
+        }
     }
 }
 
@@ -83,33 +91,27 @@ impl Tree for SharedTree {
     }
 
     fn create(&mut self, dir: NodeId, name: &[u8], what: New<'_>) -> Result<NodeId, TreeFault> {
-        if let Some(tree) = Rc::get_mut(&mut self.tree) {
-            return tree.create(dir, name, what);
+        self.make_own()?;
+        match Rc::get_mut(&mut self.tree) {
+            None => Err(TreeFault::Memory),
+            Some(tree) => tree.create(dir, name, what),
         }
-        let mut tree = own(&self.tree)?;
-        let node = tree.create(dir, name, what)?;
-        self.tree = shared(self.alloc, tree)?;
-        Ok(node)
     }
 
     fn remove(&mut self, n: NodeId) -> Result<(), TreeFault> {
-        if let Some(tree) = Rc::get_mut(&mut self.tree) {
-            return tree.remove(n);
+        self.make_own()?;
+        match Rc::get_mut(&mut self.tree) {
+            None => Err(TreeFault::Memory),
+            Some(tree) => tree.remove(n),
         }
-        let mut tree = own(&self.tree)?;
-        tree.remove(n)?;
-        self.tree = shared(self.alloc, tree)?;
-        Ok(())
     }
 
     fn rename(&mut self, n: NodeId, dir: NodeId, name: &[u8]) -> Result<(), TreeFault> {
-        if let Some(tree) = Rc::get_mut(&mut self.tree) {
-            return tree.rename(n, dir, name);
+        self.make_own()?;
+        match Rc::get_mut(&mut self.tree) {
+            None => Err(TreeFault::Memory),
+            Some(tree) => tree.rename(n, dir, name),
         }
-        let mut tree = own(&self.tree)?;
-        tree.rename(n, dir, name)?;
-        self.tree = shared(self.alloc, tree)?;
-        Ok(())
     }
 
     fn len(&self, n: NodeId) -> usize {
@@ -121,23 +123,19 @@ impl Tree for SharedTree {
     }
 
     fn put_byte(&mut self, n: NodeId, at: usize, b: u8) -> Result<(), TreeFault> {
-        if let Some(tree) = Rc::get_mut(&mut self.tree) {
-            return tree.put_byte(n, at, b);
+        self.make_own()?;
+        match Rc::get_mut(&mut self.tree) {
+            None => Err(TreeFault::Memory),
+            Some(tree) => tree.put_byte(n, at, b),
         }
-        let mut tree = own(&self.tree)?;
-        tree.put_byte(n, at, b)?;
-        self.tree = shared(self.alloc, tree)?;
-        Ok(())
     }
 
     fn truncate(&mut self, n: NodeId, len: usize) -> Result<(), TreeFault> {
-        if let Some(tree) = Rc::get_mut(&mut self.tree) {
-            return tree.truncate(n, len);
+        self.make_own()?;
+        match Rc::get_mut(&mut self.tree) {
+            None => Err(TreeFault::Memory),
+            Some(tree) => tree.truncate(n, len),
         }
-        let mut tree = own(&self.tree)?;
-        tree.truncate(n, len)?;
-        self.tree = shared(self.alloc, tree)?;
-        Ok(())
     }
 }
 

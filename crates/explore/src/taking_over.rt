@@ -1,7 +1,7 @@
 //! Where processes of untrusted programs are taken over in a run.
 
 use crate::attacks::Move;
-use crate::runners::{Runner, call_of};
+use crate::runners::Runner;
 use instruction_set::Syscall;
 use rights::Memory;
 use rights::limits::MAX_PROCESSES;
@@ -27,27 +27,10 @@ pub struct Takeover {
     pub entry: Entry,
 }
 
-/// The point at which a process enters the mode by its next step, if its call is `cap_enter`.
-fn entering(task: &Task, runner: &Runner<'_>, process: u8) -> Option<u8> {
-    let state = runner.machine.processes().get(process as usize)?;
-    match call_of(task, state) {
-        Some(Syscall::CapEnter) if !state.mode() => Some(state.point),
-        _ => None,
-    }
-}
-
-/// How a process came into the mode which entered it at this point, if it did so by itself.
-fn entry_of(task: &Task, process: u8, entered: Option<u8>) -> Entry {
-    match entered {
-        Some(point) => Entry::At(point),
-        None if (process as usize) < task.starts().len() => Entry::Start,
-        None => Entry::Parents,
-    }
-}
-
 /// The processes that do deeds in a run of these moves, in the order of their first ones.
 pub fn takeovers(alloc: Global, task: &Task, moves: &[Move<'_>]) -> Result<Vec<Takeover>, Memory> {
     let mut found: Vec<Takeover> = Vec::new(alloc);
+    let mut is_found = [false; MAX_PROCESSES];
     let mut entered: [Option<u8>; MAX_PROCESSES] = [None; MAX_PROCESSES];
     let mut runner = Runner::start(alloc, task)?;
     for next in moves {
@@ -56,19 +39,23 @@ pub fn takeovers(alloc: Global, task: &Task, moves: &[Move<'_>]) -> Result<Vec<T
         if at >= MAX_PROCESSES {
             break;
         }
-        if next.deed.is_some() {
-            let is_known = found.iter().any(|known| known.process == process);
-            if let Some(state) = runner.machine.processes().get(at) {
-                if !is_known {
-                    found.push(Takeover {
-                        process,
-                        program: state.program,
-                        entry: entry_of(task, process, entered[at]),
-                    })?;
+        if let Some(state) = runner.process(process) {
+            if next.deed.is_none() {
+                if matches!(runner.call(process), Some(Syscall::CapEnter)) && !state.mode() {
+                    entered[at] = Some(state.point);
                 }
+            } else if !is_found[at] {
+                is_found[at] = true;
+                found.push(Takeover {
+                    process,
+                    program: state.program,
+                    entry: match entered[at] {
+                        Some(point) => Entry::At(point),
+                        None if at < task.starts().len() => Entry::Start,
+                        None => Entry::Parents,
+                    },
+                })?;
             }
-        } else if let Some(point) = entering(task, &runner, process) {
-            entered[at] = Some(point);
         }
         runner.step(next)?;
     }

@@ -7,19 +7,29 @@ use std::alloc::Global;
 
 /// A state that was met.
 #[derive(Clone, Copy)]
-struct Visit {
+pub(crate) struct Visit {
     /// The state before it, if it isn't the first.
-    parent: Option<usize>,
-    /// Where the moves lie that lead here from there.
-    first: usize,
-    count: usize,
+    pub parent: Option<usize>,
     /// How many moves lead here from the first state.
     depth: usize,
     /// How many calls the kernel refused on its way.
-    refusals: u32,
+    pub refusals: u32,
+    /// From where to where the moves lie that lead here from the state before it.
+    first: usize,
+    end: usize,
     /// It was gone on from.
     is_done: bool,
 }
+
+/// What is before the first state.
+const NOWHERE: Visit = Visit {
+    parent: None,
+    depth: 0,
+    refusals: 0,
+    first: 0,
+    end: 0,
+    is_done: true,
+};
 
 /// The states that were met, in the order in which they were.
 #[derive(Drop)]
@@ -28,8 +38,8 @@ pub(crate) struct Trails<'a> {
     visits: Vec<Visit>,
     /// The moves of all of them, one after another.
     moves: Vec<Move<'a>>,
-    /// The greatest depth.
-    deepest: usize,
+    /// The greatest number of moves that lead to a state.
+    pub deepest: usize,
 }
 
 impl<'a> Trails<'a> {
@@ -48,6 +58,11 @@ impl<'a> Trails<'a> {
         self.visits.len()
     }
 
+    /// The state of a place.
+    pub(crate) fn visit(&self, place: usize) -> Visit {
+        self.visits.get(place).copied().unwrap_or(NOWHERE)
+    }
+
     /// Adds a state to which these moves lead from the one before it, and gives its place.
     pub(crate) fn add(
         &mut self,
@@ -55,111 +70,76 @@ impl<'a> Trails<'a> {
         moves: &[Move<'a>],
     ) -> Result<usize, Memory> {
         let place = self.visits.len();
-        let (before, depth) = match parent {
-            None => (0, moves.len()),
-            Some(parent) => (
-                self.refusals(parent),
-                self.depth(parent).saturating_add(moves.len()),
-            ),
+        let before = match parent {
+            None => NOWHERE,
+            Some(parent) => self.visit(parent),
         };
         let refused = matches!(moves.first(), Some(next) if next.event.refuse);
+        let depth = before.depth.saturating_add(moves.len());
+        let first = self.moves.len();
+        self.moves.extend_from_slice(moves)?;
         self.visits.push(Visit {
             parent,
-            first: self.moves.len(),
-            count: moves.len(),
             depth,
-            refusals: before.saturating_add(u32::from(refused)),
+            refusals: before.refusals.saturating_add(u32::from(refused)),
+            first,
+            end: self.moves.len(),
             is_done: false,
         })?;
-        self.moves.extend_from_slice(moves)?;
         self.deepest = self.deepest.max(depth);
         Ok(place)
-    }
-
-    /// How many moves lead to the state of a place from the first one.
-    fn depth(&self, place: usize) -> usize {
-        match self.visits.get(place) {
-            None => 0,
-            Some(visit) => visit.depth,
-        }
-    }
-
-    /// The greatest number of moves that lead to a state.
-    pub(crate) fn deepest(&self) -> usize {
-        self.deepest
-    }
-
-    /// The state before that of a place, if it isn't the first.
-    fn parent(&self, place: usize) -> Option<usize> {
-        self.visits.get(place)?.parent
-    }
-
-    /// Whether no state is before that of a place.
-    pub(crate) fn is_first(&self, place: usize) -> bool {
-        self.parent(place).is_none()
-    }
-
-    /// How many calls the kernel refused on the way to the state of a place.
-    pub(crate) fn refusals(&self, place: usize) -> u32 {
-        match self.visits.get(place) {
-            None => 0,
-            Some(visit) => visit.refusals,
-        }
     }
 
     /// Notes that the state of a place is gone on from. Whether it wasn't before is told.
     pub(crate) fn begin(&mut self, place: usize) -> bool {
         match self.visits.get_mut(place) {
-            None => false,
-            Some(visit) => {
-                let is_new = !visit.is_done;
+            Some(visit) if !visit.is_done => {
                 visit.is_done = true;
-                is_new
+                true
             }
+            _ => false,
         }
     }
 
-    /// How many moves lead to the state of a place from the one before it.
-    pub(crate) fn count_to(&self, place: usize) -> usize {
-        match self.visits.get(place) {
-            None => 0,
-            Some(visit) => visit.count,
-        }
+    /// The moves that lead to the state of a place from the one before it.
+    pub(crate) fn moves_to(&self, place: usize) -> &[Move<'a>] {
+        let visit = self.visit(place);
+        let end = visit.end.min(self.moves.len());
+        &self.moves[visit.first.min(end)..end]
     }
 
-    /// One of these moves, by its number from 0 on.
-    pub(crate) fn move_to(&self, place: usize, number: usize) -> Option<Move<'a>> {
-        let visit = self.visits.get(place)?;
-        if number >= visit.count {
-            return None;
-        }
-        self.moves.get(visit.first.saturating_add(number)).copied()
-    }
-
-    /// The states on the way to one, itself first, up to one whose machine is kept, or to the first state.
-    pub(crate) fn way_to(&self, place: usize, kept: &Kept<'_>) -> Result<Vec<usize>, Memory> {
+    /// The states on the way to one, itself last, from one on whose machine is kept, or from the first state.
+    pub(crate) fn way_to(
+        &self,
+        place: Option<usize>,
+        kept: Option<&Kept<'_>>,
+    ) -> Result<Vec<usize>, Memory> {
         let mut way = Vec::new(self.alloc);
-        let mut next = Some(place);
+        let mut next = place;
         for _ in 0..self.visits.len() {
             let Some(at) = next else {
                 break;
             };
             way.push(at)?;
-            next = if kept.has(at) { None } else { self.parent(at) };
+            next = match kept {
+                Some(kept) if kept.has(at) => None,
+                _ => self.visit(at).parent,
+            };
         }
+        way.reverse();
         Ok(way)
     }
 
-    /// The run to the state of a place from the first one on, and on by further moves.
-    pub(crate) fn run_by(&self, place: usize, last: &[Move<'a>]) -> Result<Vec<Move<'a>>, Memory> {
-        let way = self.way_to(place, &Kept::none(self.alloc))?;
+    /// The run to the state of a place from the first one on, if there is one, and on by further moves.
+    pub(crate) fn run_by(
+        &self,
+        place: Option<usize>,
+        last: &[Move<'a>],
+    ) -> Result<Vec<Move<'a>>, Memory> {
         let mut run = Vec::new(self.alloc);
-        for at in way.iter().rev() {
-            for number in 0..self.count_to(*at) {
-                if let Some(next) = self.move_to(*at, number) {
-                    run.push(next)?;
-                }
-            }
+        let way = self.way_to(place, None)?;
+        for at in &way {
+            run.extend_from_slice(self.moves_to(*at))?;
         }
         run.extend_from_slice(last)?;
         Ok(run)

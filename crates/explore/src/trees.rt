@@ -9,7 +9,6 @@ use file_tree::{Kind, NodeId, Tree};
 use rights::Memory;
 use rights::limits::MAX_NODES;
 use std::alloc::Global;
-use task::Grant;
 
 /// The digest of a tree, and of where each of its nodes stands, by number, with the grant in which it stands, by its place in the policy.
 #[derive(Drop)]
@@ -19,31 +18,15 @@ pub(crate) struct TreeDigest {
     pub grants: Vec<Option<usize>>,
 }
 
-impl TreeDigest {
-    /// The digest of no tree.
-    pub(crate) fn none(alloc: Global) -> TreeDigest {
-        TreeDigest {
-            whole: Digest::new(),
-            nodes: Vec::new(alloc),
-            grants: Vec::new(alloc),
-        }
-    }
-}
-
-/// The number of a kind.
-fn kind_number(kind: Kind) -> u64 {
-    match kind {
-        Kind::File => 1,
-        Kind::Dir => 2,
-        Kind::Link => 3,
-    }
-}
-
 /// Adds what a node is, with its content where that counts.
 fn add_content<T: Tree>(digest: &mut Digest, tree: &T, node: NodeId, counts: bool)
     requires { node < length (T.nodes tree.now) }
 {
-    digest.add(kind_number(tree.kind(node)));
+    digest.add(match tree.kind(node) {
+        Kind::File => 1,
+        Kind::Dir => 2,
+        Kind::Link => 3,
+    });
     if !counts {
         return;
     }
@@ -54,13 +37,11 @@ fn add_content<T: Tree>(digest: &mut Digest, tree: &T, node: NodeId, counts: boo
     }
 }
 
-/// The digest of a tree. The order in which its nodes were made doesn't count, and neither do removed ones, and what no program can read. The grants are
-/// those of this policy.
+/// The digest of a tree. The order in which its nodes were made doesn't count, and neither do removed ones, and what no program can read.
 pub(crate) fn digest_of_tree<T: Tree>(
     alloc: Global,
     tree: &T,
     readable: &Readable<'_>,
-    policy: &[Grant],
 ) -> Result<TreeDigest, Memory> {
     let mut nodes = Vec::new(alloc);
     let mut grants = Vec::new(alloc);
@@ -79,7 +60,7 @@ pub(crate) fn digest_of_tree<T: Tree>(
                 return Err(Memory);
             }
             place.add_text(&text);
-            grant = grant_holding(policy, &text);
+            grant = grant_holding(readable.policy, &text);
             let mut all = place;
             add_content(&mut all, tree, node, readable.holds(&text));
             whole = whole.beside(all);

@@ -2,7 +2,7 @@ use Rattle.std.proofs.Common.{◌≡◌, ◌++◌, map, take}
 use Rattle.explore.specs.Broken.{own_moves}
 use Rattle.explore.specs.Moves.{step_of}
 use Rattle.explore.specs.MoveViews.{move_of}
-use Rattle.explore.proofs.moves.add_inputs.Given as goal
+use Rattle.explore.proofs.moves.add_events.Given as goal
 
 -- a step is added for each byte so far
 abbrev pub invariant-loop-input : goal.invariant-loop-input
