@@ -2,108 +2,119 @@
 
 ghost use Rattle.std.specs.Prelude.{None, true};
 
-use crate::breaking::{error_fits, registers_beyond, slots_beyond, successes_fit};
-use crate::scenes::BoundedPoint;
+use crate::breaking::{PartTest, error_fits, successes_fit};
+use crate::scenes::{BoundedPoint, Scene};
 use certificate::{Bound, Domain};
-use std::alloc::{AllocError, Global};
 use texts::{Page, say};
 use transfer::{Outcome, OutcomeVisitor, failure, successes_pass};
 
-/// An outcome of an instruction: the point that it goes to, and the bound that it has there.
-#[derive(Clone, Copy)]
-pub(crate) struct Arrival {
-    pub point: usize,
-    pub bound: Bound,
-}
-
 /// By what an instruction leads to other points.
-#[derive(Clone, Copy, PartialEq, Eq)]
+#[derive(Clone, Copy)]
 pub(crate) enum Leads {
     BySuccess,
     ByError,
-    /// By either.
-    Anywhere,
 }
 
-/// The outcomes of an instruction, as they are told.
+/// The telling of the outcomes that go to a point and aren't within the bound there.
 #[derive(Drop)]
-struct OutcomeList {
-    list: Vec<Arrival>,
-    is_cut: bool,
+struct Narrow<'a> {
+    words: Page,
+    scene: &'a Scene<'a>,
+    program: u8,
+    point: u8,
+    there: &'a Bound,
+    /// How many are told, with those at other points.
+    told: u32,
 }
 
-/// How many outcomes of one instruction are kept.
-const MOST_ARRIVALS: usize = 512;
+/// How many arrivals of one rule are told.
+const MOST_TOLD: u32 = 3;
 
-impl OutcomeVisitor for OutcomeList {
+impl<'a> OutcomeVisitor for Narrow<'a> {
     ghost passes = { λ t o. true };
 
     ghost joins = { λ t. None };
 
     ghost kept = { λ t. None };
 
-    /// Keeps the outcome.
+    /// Tells of the outcome.
     fn visit(&mut self, outcome: &Outcome<'_>) -> bool {
-        if self.list.len() >= MOST_ARRIVALS {
-            return true;
-        }
-        let arrival = Arrival {
-            point: outcome.point,
-            bound: outcome.bound_there(),
-        };
-        if self.list.push(arrival).is_err() {
-            self.is_cut = true;
+        let goes_there = outcome.point == usize::from(self.point);
+        if goes_there && self.told < MOST_TOLD && !outcome.is_within(self.there) {
+            self.told += 1;
+            say!(&mut self.words; "; it leads to ", self.scene.place(self.program, self.point));
+            add_parts(&mut self.words, &outcome.bound_there(), self.there);
         }
         true
     }
 }
 
-/// The outcomes of a point's instruction.
-pub(crate) fn arrivals(
-    alloc: Global,
+/// Adds where an instruction leads that a bound there is too narrow for, and in which parts.
+pub(crate) fn add_narrow(
+    page: &mut Page,
+    scene: &Scene<'_>,
     from: &BoundedPoint<'_>,
     leads: Leads,
-) -> Result<Vec<Arrival>, AllocError> {
-    let (list, is_cut) = (Vec::new(alloc), false);
-    let mut arrivals = OutcomeList { list, is_cut };
-    if leads != Leads::ByError {
-        successes_pass(&from.site, from.instruction, &mut arrivals);
-    }
-    if leads != Leads::BySuccess {
-        if let Some(outcome) = failure(from.site.bound, from.instruction) {
-            arrivals.visit(&outcome);
+) {
+    let (site, instruction) = (&from.site, from.instruction);
+    let mut told = 0;
+    for (point, _instruction) in scene.code(from.program).iter().enumerate() {
+        let there = scene.cert.bound_at(site.name.as_bytes(), point);
+        let Some(bound) = &there else {
+            continue;
+        };
+        let mut narrow = Narrow {
+            words: Page::new(page.alloc()),
+            scene: &*scene,
+            program: from.program,
+            point: point as u8,
+            there: bound,
+            told,
+        };
+        match leads {
+            Leads::BySuccess => {
+                if !successes_fit(site, instruction, point, &there) {
+                    successes_pass(site, instruction, &mut narrow);
+                }
+            }
+            Leads::ByError => {
+                if let Some(outcome) = failure(site.bound, instruction) {
+                    narrow.visit(&outcome);
+                }
+            }
         }
+        told = narrow.told;
+        say!(page; &narrow.words);
     }
-    if arrivals.is_cut {
-        return Err(AllocError);
-    }
-    Ok(arrivals.list)
 }
 
-/// Whether each outcome that goes to a point is within this bound there.
-pub(crate) fn fits(
-    from: &BoundedPoint<'_>,
-    leads: Leads,
-    point: usize,
-    there: &Option<Bound>,
-) -> bool {
+/// Adds where it leads that has no bound.
+pub(crate) fn add_unbound(page: &mut Page, scene: &Scene<'_>, from: &BoundedPoint<'_>) {
     let (site, instruction) = (&from.site, from.instruction);
-    (leads == Leads::ByError || successes_fit(site, instruction, point, there))
-        && (leads == Leads::BySuccess || error_fits(site.bound, instruction, point, there))
+    for (point, _instruction) in scene.code(from.program).iter().enumerate() {
+        let there = scene.cert.bound_at(site.name.as_bytes(), point);
+        if there.is_none()
+            && !(successes_fit(site, instruction, point, &there)
+                && error_fits(site.bound, instruction, point, &there))
+        {
+            let place = scene.place(from.program, point as u8);
+            say!(page; "; it leads to ", place, ", which has none");
+        }
+    }
 }
 
 /// Adds in which parts a bound is too narrow for one that arrives.
-pub(crate) fn add_parts(page: &mut Page, arriving: &Bound, there: &Bound) {
+fn add_parts(page: &mut Page, arriving: &Bound, there: &Bound) {
     let (mode, most) = (arriving.mode(), there.mode());
     if !mode.within(&most) {
         say!(page; "; the mode arrives as ", mode, ", the bound has ", most);
     }
-    let registers = registers_beyond(page.alloc(), arriving, there);
+    let registers = PartTest::RegisterWithin { arriving, there }.failing(page.alloc());
     for register in &page.gathered(registers) {
         let (value, most) = (arriving.interval(*register), there.interval(*register));
         say!(page; "; r", *register, " arrives as ", value, ", the bound has ", most);
     }
-    let numbers = slots_beyond(page.alloc(), arriving, there);
+    let numbers = PartTest::SlotWithin { arriving, there }.failing(page.alloc());
     for number in &page.gathered(numbers) {
         let number = u32::from(*number);
         let (slot, most) = (arriving.slot(number), there.slot(number));

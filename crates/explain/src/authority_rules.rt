@@ -1,15 +1,15 @@
 //! What the rules K17 to K22 compare of an untrusted program and its authority.
 
 use crate::breaking::{
-    moved_into, narrow_ends, received_beyond, started_beyond, taken_beyond, unlisted_ceilings,
+    PartTest, moved_into, narrow_ends, received_beyond, started_beyond, unlisted_ceilings,
 };
-use crate::scenes::{BoundedPoint, Scene};
+use crate::scenes::Scene;
 use crate::starting::Object;
-use certificate::{Bound, Channel, Class, Side, Target};
+use certificate::{Bound, Class, Held, Side, Target};
 use checker::{Allowance, AuthorityRule, allowance_at, ceiling_at};
-use task::{Grant, Start};
+use task::grant_named;
 use texts::{Name, Page, say};
-use transfer::{channel_at, enters_mode};
+use transfer::channel_at;
 
 /// Adds the ceiling of a descriptor's grant, or that it is an end that isn't listed, or that nothing can be said of it.
 fn add_ceiling(page: &mut Page, scene: &Scene<'_>, allowed: &Allowance<'_>, target: &Target) {
@@ -24,9 +24,10 @@ fn add_ceiling(page: &mut Page, scene: &Scene<'_>, allowed: &Allowance<'_>, targ
     }
 }
 
-/// Adds what a process may take into the mode that its authority hasn't.
-fn add_taken(page: &mut Page, scene: &Scene<'_>, allowed: &Allowance<'_>, bound: &Bound) {
-    let numbers = taken_beyond(page.alloc(), allowed, bound);
+/// Adds what a process may take into the mode that its authority hasn't, where it enters the mode with this bound.
+pub(crate) fn add_taken(page: &mut Page, scene: &Scene<'_>, name: &Name, bound: &Bound) {
+    let allowed = &allowance_at(scene.cert, name);
+    let numbers = PartTest::SlotAllowed { allowed, bound }.failing(page.alloc());
     for number in &page.gathered(numbers) {
         let number = u32::from(*number);
         let slot = bound.slot(number);
@@ -37,52 +38,19 @@ fn add_taken(page: &mut Page, scene: &Scene<'_>, allowed: &Allowance<'_>, bound:
     }
 }
 
-/// Adds with what a process starts in the mode that its authority hasn't.
-fn add_first(
-    page: &mut Page,
-    scene: &Scene<'_>,
-    allowed: &Allowance<'_>,
-    process: usize,
-    start: &Start,
-) {
-    let descriptors = started_beyond(page.alloc(), scene.task, allowed, start);
-    for first in &page.gathered(descriptors) {
-        say!(page; "; process ", process, " starts in the mode with descriptor ", first.number);
-        say!(page; " of ", Object { scene: &*scene, of: first.object }, " with ", first.rights);
-    }
-}
-
-/// Adds what a program may hold in the mode at a point that its authority hasn't: where a process enters the mode, or, at point 0
-/// and so at each point without a bound that is asked, starts in it.
-pub(crate) fn add_beyond(
-    page: &mut Page,
-    scene: &Scene<'_>,
-    name: &Name,
-    program: u8,
-    at: Option<&BoundedPoint<'_>>,
-) {
+/// Adds with what processes of a program start in the mode that its authority hasn't.
+pub(crate) fn add_started(page: &mut Page, scene: &Scene<'_>, name: &Name, program: u8) {
     let allowed = allowance_at(scene.cert, name);
-    if let Some(at) = at {
-        if enters_mode(at.instruction) {
-            add_taken(page, scene, &allowed, at.site.bound);
-        }
-        if at.site.point != 0 {
-            return;
-        }
-    }
     for (process, start) in scene.task.starts().iter().enumerate() {
-        if start.mode && start.program == program {
-            add_first(page, scene, &allowed, process, start);
+        if !start.mode || start.program != program {
+            continue;
         }
-    }
-}
-
-/// Adds what a grant lists.
-fn add_operations(page: &mut Page, grant: &Grant) {
-    let mut separator = ", and the grant lists ";
-    for operation in &grant.operations {
-        say!(page; separator, *operation);
-        separator = ",";
+        let descriptors = started_beyond(page.alloc(), scene.task, &allowed, start);
+        for first in &page.gathered(descriptors) {
+            let of = first.object;
+            say!(page; "; process ", process, " starts in the mode with descriptor ", first.number);
+            say!(page; " of ", Object { scene: &*scene, of }, " with ", first.rights);
+        }
     }
 }
 
@@ -92,8 +60,14 @@ fn add_ceilings(page: &mut Page, scene: &Scene<'_>, allowed: &Allowance<'_>) {
     for ceiling in &page.gathered(ceilings) {
         let (name, grants) = (ceiling.grant().as_bytes(), scene.task.grants());
         say!(page; "; the ceiling on ", name, " has ", ceiling.rights());
-        match grants.iter().find(|grant| grant.name.as_bytes() == name) {
-            Some(grant) => add_operations(page, grant),
+        match grant_named(grants, name) {
+            Some(grant) => {
+                let mut separator = ", and the grant lists ";
+                for operation in &grant.operations {
+                    say!(page; separator, *operation);
+                    separator = ",";
+                }
+            }
             None => say!(page; ", and the task has no such grant"),
         }
     }
@@ -110,15 +84,22 @@ fn add_moves(page: &mut Page, allowed: &Allowance<'_>) {
     }
 }
 
-/// Adds the line of a side's channel: what it lets through, or that it is missing.
-fn add_line(page: &mut Page, channel: Option<&Channel>, class: &Class, side: Side) {
+/// Adds the line of a side's channel, or that it is missing. What it lets through is given.
+fn add_line(page: &mut Page, scene: &Scene<'_>, class: &Class, side: Side) -> Option<Held> {
     say!(page; "; the channel ", *class, " ", side);
-    match channel {
-        None => say!(page; " has no line"),
-        Some(channel) => match channel.sends() {
-            None => say!(page; " has the line none"),
-            Some(held) => say!(page; " has ", held),
-        },
+    match channel_at(scene.cert, class, side) {
+        None => {
+            say!(page; " has no line");
+            None
+        }
+        Some(channel) => {
+            let sent = channel.sends();
+            match sent {
+                None => say!(page; " has the line none"),
+                Some(held) => say!(page; " has ", held),
+            }
+            sent
+        }
     }
 }
 
@@ -126,10 +107,7 @@ fn add_line(page: &mut Page, channel: Option<&Channel>, class: &Class, side: Sid
 fn add_received(page: &mut Page, scene: &Scene<'_>, allowed: &Allowance<'_>) {
     let ends = received_beyond(page.alloc(), scene.cert, allowed);
     for end in &page.gathered(ends) {
-        let (class, side) = (end.class(), end.side().other());
-        let channel = channel_at(scene.cert, &class, side);
-        add_line(page, channel, &class, side);
-        if let Some(held) = channel.and_then(|channel| channel.sends()) {
+        if let Some(held) = add_line(page, scene, &end.class(), end.side().other()) {
             add_ceiling(page, scene, allowed, &held.target());
         }
     }
@@ -139,8 +117,7 @@ fn add_received(page: &mut Page, scene: &Scene<'_>, allowed: &Allowance<'_>) {
 fn add_sent(page: &mut Page, scene: &Scene<'_>, allowed: &Allowance<'_>) {
     let ends = narrow_ends(page.alloc(), scene.cert, allowed);
     for end in &page.gathered(ends) {
-        let (class, side) = (end.class(), end.side());
-        add_line(page, channel_at(scene.cert, &class, side), &class, side);
+        add_line(page, scene, &end.class(), end.side());
         say!(page; ", and has to have unknown 0000 3fff 0 3");
     }
 }

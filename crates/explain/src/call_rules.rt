@@ -1,18 +1,18 @@
 //! What the rules K4 to K15 compare at a call that breaks them.
 
-ghost use Rattle.std.specs.Prelude.{false};
+ghost use Rattle.std.specs.Prelude.{Some, option_map};
+ghost use Rattle.certificate.specs.Order.{sends_within};
+ghost use Rattle.certificate.specs.Views.{held_of};
 
-use crate::breaking::breaking_slots;
 use crate::scenes::Scene;
-use certificate::{Bound, Held, Slot, Target};
-use checker::uses::{IsWithin, SameGrant, target_lists};
+use certificate::{Bound, Domain, Held, Slot, Target};
+use checker::uses::{SameGrant, target_lists};
 use checker::{CallRule, KeepsRule, SlotRule};
 use instruction_set::{Operand, Syscall};
-use std::alloc::{AllocError, Global};
 use texts::{Page, say};
 use transfer::{
-    Need, OpenSlot, Passed, SlotTest, Through, channel_at, demanded, failing_slots, is_single,
-    may_be_on, needed, operand_interval,
+    Need, OpenSlot, Passed, SlotTest, Through, channel_at, demanded, failing_slots,
+    failing_through, is_single, may_be_on, needed, operand_interval,
 };
 
 /// A call at a point with a bound.
@@ -23,11 +23,8 @@ pub(crate) struct Told<'a> {
     pub call: &'a Syscall,
 }
 
-/// Adds which operand may be several numbers.
-fn add_several(page: &mut Page, bound: &Bound, operand: Option<Operand>) {
-    let Some(operand) = operand else {
-        return;
-    };
+/// Adds which numbers an operand may be, if they are several.
+fn add_several(page: &mut Page, bound: &Bound, operand: Operand) {
     let interval = operand_interval(bound, operand);
     if !is_single(interval) {
         say!(page; "; the call changes the slot of its number, which may be ", interval);
@@ -80,28 +77,17 @@ fn add_moves(page: &mut Page, told: &Told<'_>, slot: &OpenSlot, targets: Operand
     }
 }
 
-/// The test that no slot passes: a channel with an empty line lets nothing be sent.
+/// The test whether a channel's line lets a slot through. An empty one lets nothing be sent.
 #[derive(Clone, Copy)]
-struct LetsNothing;
-
-impl SlotTest for LetsNothing {
-    ghost passes = { λ t slot. false };
-
-    fn asks(&self, _number: u8, _held: &Held) -> bool {
-        false
-    }
+struct LetsThrough<'a> {
+    line: &'a Option<Held>,
 }
 
-/// The slots that are sent and that a channel's line doesn't let through.
-fn kept_back(
-    alloc: Global,
-    bound: &Bound,
-    sent: Operand,
-    line: &Option<Held>,
-) -> Result<Vec<OpenSlot>, AllocError> {
-    match line {
-        Some(most) => failing_slots(alloc, bound, sent, &IsWithin { most }),
-        None => failing_slots(alloc, bound, sent, &LetsNothing),
+impl<'a> SlotTest for LetsThrough<'a> {
+    ghost passes = { λ t slot. sends_within (Some slot.held) (option_map held_of t.line.now) };
+
+    fn asks(&self, _number: u8, held: &Held) -> bool {
+        Some(*held).within(self.line)
     }
 }
 
@@ -119,8 +105,8 @@ fn add_sent(page: &mut Page, told: &Told<'_>, target: &Target, passed: Passed) {
         Some(most) => say!(page; " has ", most),
         None => say!(page; " has none"),
     }
-    let slots = kept_back(page.alloc(), told.bound, sent, &line);
-    for slot in &page.gathered(slots) {
+    let kept_back = failing_slots(page.alloc(), told.bound, sent, &LetsThrough { line: &line });
+    for slot in &page.gathered(kept_back) {
         say!(page; "; sent is ", *slot, ", ", slot.held);
     }
 }
@@ -185,48 +171,40 @@ fn add_slot(page: &mut Page, told: &Told<'_>, slot: &OpenSlot, need: &Need, rule
     }
 }
 
-/// Adds what a rule compares at these slots of an operand.
-fn add_slots(
-    page: &mut Page,
-    told: &Told<'_>,
-    through: &Option<Through>,
-    slots: &[OpenSlot],
-    rule: SlotRule,
-) {
-    if let Some(through) = through {
-        for slot in slots {
-            say!(page; "; ");
-            add_slot(page, told, slot, &through.need, rule);
-        }
-    }
-}
-
-/// Adds what a rule compares at each slot that breaks it, of those that the call goes through.
-fn add_slot_rule(page: &mut Page, told: &Told<'_>, rule: SlotRule) {
-    if rule == SlotRule::KnownNames && demanded(told.call).changes_global_names {
-        say!(page; "; ", told.call.call().name(), " makes or removes a name by a global path");
-    }
+/// Adds what a rule compares at each slot that breaks it, of those that the call goes through by an operand, if it does.
+fn add_slots(page: &mut Page, told: &Told<'_>, through: &Option<Through>, rule: SlotRule) {
+    let Some(Through { need, .. }) = through else {
+        return;
+    };
     let (task, cert) = (told.scene.task, told.scene.cert);
     let test = KeepsRule { rule, task, cert };
-    let needs = needed(told.call);
-    match breaking_slots(page.alloc(), &test, told.bound, told.call) {
-        Ok(found) => {
-            add_slots(page, told, &needs.first, &found.first, rule);
-            add_slots(page, told, &needs.second, &found.second, rule)
-        }
-        Err(AllocError) => page.fail(),
+    let slots = failing_through(page.alloc(), told.bound, through, &test);
+    for slot in &page.gathered(slots) {
+        say!(page; "; ");
+        add_slot(page, told, slot, need, rule);
     }
 }
 
 /// Adds what one of the rules K4 to K15 compares at a call that breaks it.
 pub(crate) fn add_call_rule(page: &mut Page, told: &Told<'_>, rule: CallRule) {
+    let (demands, name) = (demanded(told.call), told.call.call().name());
     match rule {
-        CallRule::OneNumber => add_several(page, told.bound, demanded(told.call).single),
+        CallRule::OneNumber => {
+            if let Some(operand) = demands.single {
+                add_several(page, told.bound, operand)
+            }
+        }
         CallRule::FreeNumbers => add_undetermined(page, told.bound),
         CallRule::NoGlobalPath => {
-            say!(page; "; ", told.call.call().name(), " goes by a global path, and the mode is ");
-            say!(page; told.bound.mode())
+            say!(page; "; ", name, " goes by a global path, and the mode is ", told.bound.mode())
         }
-        CallRule::OfSlot(rule) => add_slot_rule(page, told, rule),
+        CallRule::OfSlot(rule) => {
+            if rule == SlotRule::KnownNames && demands.changes_global_names {
+                say!(page; "; ", name, " makes or removes a name by a global path");
+            }
+            let needs = needed(told.call);
+            add_slots(page, told, &needs.first, rule);
+            add_slots(page, told, &needs.second, rule)
+        }
     }
 }

@@ -1,6 +1,6 @@
 //! Which findings are counted under one that stands before them: calls with one `else`, whose point has no bound, break one rule each.
 
-ghost use Rattle.std.specs.Prelude.{◌≡◌, filter, length, map};
+ghost use Rattle.std.specs.Prelude.{◌≡◌, map};
 ghost use Rattle.std.specs.List.{list_all, list_any};
 ghost use Rattle.checker.specs.FindingViews.{broken_rule_of};
 ghost use Rattle.explain.specs.Covering.{count_under, covers, is_counted, is_met, is_of_reach, leads_alike};
@@ -83,26 +83,17 @@ pub(crate) fn is_counted(scene: &Scene<'_>, all: &[BrokenRule], found: BrokenRul
     is_of_reach(found) && any_covers(scene, all, found)
 }
 
-/// How many of these findings are such as are counted under one.
-fn how_many(scene: &Scene<'_>, all: &[BrokenRule], found: BrokenRule) -> usize
-    ensures { result ≡ length (filter (covers scene.now.task.now scene.now.cert.now (broken_rule_of found)) (map broken_rule_of all.now)) }
-{
-    let mut count = 0;
-    for later in all {
-        if covers(scene, found, *later) {
-            count += 1;
-        }
-    }
-    count
-}
-
 /// How many of these findings are counted under one.
 pub(crate) fn count_under(scene: &Scene<'_>, all: &[BrokenRule], found: BrokenRule) -> usize
     ensures { result ≡ count_under scene.now.task.now scene.now.cert.now (map broken_rule_of all.now) (broken_rule_of found) }
 {
+    let mut count = 0;
     if is_of_reach(found) {
-        how_many(scene, all, found)
-    } else {
-        0
+        for later in all {
+            if covers(scene, found, *later) {
+                count += 1;
+            }
+        }
     }
+    count
 }

@@ -17,7 +17,7 @@ use instruction_set::{Instruction, Syscall};
 use rights::Memory;
 use searcher::{propose, reached, search};
 use std::alloc::Global;
-use task::{FirstObject, Grant, Task, TaskNode, node_begins, none_marked};
+use task::{FirstObject, Grant, Task, TaskNode, none_marked};
 use task_text::ProgramText;
 use texts::{Page, say};
 
@@ -31,10 +31,10 @@ fn node_at<'a>(task: &'a Task, path: &[u8]) -> Option<&'a TaskNode> {
     None
 }
 
-/// The first grant that a node lies in, if it lies in one.
-fn grant_over<'a>(task: &'a Task, node: &TaskNode) -> Option<&'a Grant> {
+/// The first grant that a place lies in, if it lies in one.
+fn grant_over<'a>(task: &'a Task, place: &file_tree::Place) -> Option<&'a Grant> {
     for grant in task.grants() {
-        if node.place.begins_with(&grant.path) {
+        if place.begins_with(&grant.path) {
             return Some(grant);
         }
     }
@@ -44,7 +44,7 @@ fn grant_over<'a>(task: &'a Task, node: &TaskNode) -> Option<&'a Grant> {
 /// Adds that a file is opened by its own path: it counts as a grant's only where it is opened beneath one.
 fn add_file(page: &mut Page, scene: &Scene<'_>, file: &TaskNode, place: Place<'_>) {
     say!(page; place, " opens ", file.place.text(), " by its path, so it counts as no grant's: ");
-    match grant_over(scene.task, file) {
+    match grant_over(scene.task, &file.place) {
         Some(grant) => {
             say!(page; "open ", grant.path.text(), ", which is the grant ", grant.name.as_bytes())
         }
@@ -98,9 +98,10 @@ fn is_granted(task: &Task, object: FirstObject) -> bool {
     let FirstObject::Node { node, .. } = object else {
         return true;
     };
-    task.grants()
-        .iter()
-        .any(|grant| node_begins(task.nodes(), node, &grant.path))
+    match task.nodes().get(usize::from(node)) {
+        None => true,
+        Some(node) => grant_over(task, &node.place).is_some(),
+    }
 }
 
 /// Adds each first descriptor of a node that lies in no grant.

@@ -5,20 +5,10 @@ use crate::remarking::{program_remarks, task_remarks};
 use crate::scenes::Scene;
 use crate::warning::program_warnings;
 use bitflags::Flags;
-use certificate::{Bound, Cert, Held, Slot, slots_within};
+use certificate::{Bound, Cert, Slot, slots_within};
 use checker::allowance_at;
 use rights::Fcntls;
 use texts::{Name, Page, say};
-
-/// Adds a number that may be open: what it is of, and its greatest rights.
-fn add_open(page: &mut Page, number: usize, held: &Held, state: &str) {
-    let (greatest, commands) = (held.rights().greatest(), held.fcntls().greatest());
-    say!(page; "    ", number, state, held.target(), " ", greatest);
-    if !Flags::is_empty(&commands) && commands != Fcntls::all() {
-        say!(page; ", commands ", commands)
-    }
-    say!(page; "\n")
-}
 
 /// Whether the numbers of a bound may be the same as those of the one before, if there is one.
 fn has_same_slots(bound: &Bound, before: &Option<Bound>) -> bool {
@@ -31,14 +21,20 @@ fn has_same_slots(bound: &Bound, before: &Option<Bound>) -> bool {
     }
 }
 
-/// Adds the numbers that may be open under a bound.
+/// Adds the numbers that may be open under a bound, each with what it is of and its greatest rights.
 fn add_slots(page: &mut Page, bound: &Bound) {
     for (number, slot) in bound.slots().iter().enumerate() {
-        match slot {
-            Slot::Closed => {}
-            Slot::Open(held) => add_open(page, number, held, " "),
-            Slot::Maybe(held) => add_open(page, number, held, " maybe "),
+        let (held, state) = match slot {
+            Slot::Closed => continue,
+            Slot::Open(held) => (held, " "),
+            Slot::Maybe(held) => (held, " maybe "),
+        };
+        let (greatest, commands) = (held.rights().greatest(), held.fcntls().greatest());
+        say!(page; "    ", number, state, held.target(), " ", greatest);
+        if !Flags::is_empty(&commands) && commands != Fcntls::all() {
+            say!(page; ", commands ", commands)
         }
+        say!(page; "\n")
     }
 }
 
@@ -50,15 +46,6 @@ fn add_authority(page: &mut Page, scene: &Scene<'_>, name: &Name) {
     }
     for end in allowed.ends {
         say!(page; "  in the mode: sock ", end.class(), " ", end.side(), "\n")
-    }
-}
-
-/// What is told of a point without a bound.
-fn without_bound(untrusted: bool, has_cert: bool) -> &'static str {
-    match (has_cert, untrusted) {
-        (false, _) => "",
-        (true, false) => " not reached",
-        (true, true) => " not reached outside the mode",
     }
 }
 
@@ -89,6 +76,11 @@ pub fn add_listing(page: &mut Page, scene: &Scene<'_>, bounds: &Cert, has_cert: 
         if program.untrusted && has_cert {
             add_authority(page, scene, &program.name)
         }
+        let without_bound = match (has_cert, program.untrusted) {
+            (false, _) => "",
+            (true, false) => " not reached",
+            (true, true) => " not reached outside the mode",
+        };
         let mut before: Option<Bound> = None;
         for (point, _instruction) in program.program.code().iter().enumerate() {
             let written = scene.written(number as u8, point as u8);
@@ -96,7 +88,7 @@ pub fn add_listing(page: &mut Page, scene: &Scene<'_>, bounds: &Cert, has_cert: 
             let bound = scene.cert.bound_at(name, point);
             match &bound {
                 Some(bound) => say!(page; " mode ", bound.mode()),
-                None => say!(page; without_bound(program.untrusted, has_cert)),
+                None => say!(page; without_bound),
             }
             say!(page; ": ", written.text, "\n");
             if let Some(bound) = bound {

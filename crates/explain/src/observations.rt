@@ -14,8 +14,6 @@ pub struct Observation {
     pub words: Page,
     /// The points of the program that it is said of; none, where it is of the program or the task as a whole.
     pub points: Vec<usize>,
-    /// What joins the points to the words.
-    pub joint: &'static str,
     /// What is said behind the points.
     pub more: Page,
 }
@@ -24,12 +22,10 @@ impl Observation {
     /// One in these words, at these points, if there are such.
     pub(crate) fn new(topic: Topic, words: Page, points: Vec<usize>) -> Observation {
         let more = Page::new(words.alloc());
-        let joint = " at ";
         Observation {
             topic,
             words,
             points,
-            joint,
             more,
         }
     }
@@ -85,28 +81,27 @@ impl Observed {
     }
 }
 
+/// Whether a point is followed by the next number.
+fn goes_on(points: &[usize], at: usize) -> bool {
+    match (points.get(at), points.get(at.saturating_add(1))) {
+        (Some(point), Some(next)) => point.checked_add(1) == Some(*next),
+        _ => false,
+    }
+}
+
 /// Adds points as ranges: `3, 5 to 9`.
 pub fn add_points(page: &mut Page, points: &[usize]) {
     let mut separator = "";
-    let mut rest = points;
-    for _ in 0..points.len() {
-        let Some((first, behind)) = rest.split_first() else {
-            break;
-        };
-        let mut last = *first;
-        rest = behind;
-        for point in behind {
-            if last.checked_add(1) != Some(*point) {
-                break;
-            }
-            last = *point;
-            rest = rest.get(1..).unwrap_or(&[]);
+    let mut is_within = false;
+    for (at, point) in points.iter().enumerate() {
+        let goes_on = goes_on(points, at);
+        if !is_within {
+            say!(page; separator, *point);
+            separator = ", ";
+        } else if !goes_on {
+            say!(page; " to ", *point);
         }
-        say!(page; separator, *first);
-        separator = ", ";
-        if *first < last {
-            say!(page; " to ", last);
-        }
+        is_within = goes_on;
     }
 }
 
@@ -115,7 +110,7 @@ pub fn line_of(observation: &Observation) -> Page {
     let mut line = Page::new(observation.words.alloc());
     say!(&mut line; &observation.words);
     if !observation.points.is_empty() {
-        say!(&mut line; observation.joint);
+        say!(&mut line; observation.topic.joint());
         add_points(&mut line, &observation.points);
     }
     say!(&mut line; &observation.more);

@@ -4,7 +4,7 @@ use certificate::{Cert, Version};
 use checker::is_named;
 use instruction_set::Instruction;
 use std::alloc::{AllocError, Global};
-use task::Task;
+use task::{NamedProgram, Task};
 use texts::{Page, say};
 
 /// How far points may have moved.
@@ -30,15 +30,16 @@ fn named_points(alloc: Global, code: &[Instruction]) -> Result<Vec<bool>, AllocE
     Ok(flags)
 }
 
-/// How points have moved: those from one on, so far on or back.
+/// How the points of a program have moved: those from one on, so far on or back.
 #[derive(Clone, Copy)]
-pub(crate) struct Move {
+pub(crate) struct Move<'a> {
+    pub program: &'a [u8],
     from: usize,
     far: usize,
     is_on: bool,
 }
 
-impl Move {
+impl<'a> Move<'a> {
     /// Where a point has come to; none where that lies before the first.
     pub(crate) fn place(&self, point: usize) -> Option<usize> {
         if point < self.from {
@@ -62,13 +63,18 @@ impl Move {
     }
 }
 
-/// The shortest move by which each of these points comes to one whose flag is set, if it is short; that by nothing where each is.
-fn shortest_move(points: &[usize], flags: &[bool]) -> Option<Move> {
+/// The shortest move by which each of these points of a program comes to one whose flag is set, if it is short; that by nothing where
+/// each is.
+fn shortest_move<'a>(program: &'a [u8], points: &[usize], flags: &[bool]) -> Option<Move<'a>> {
     for far in 0..FURTHEST {
         for from in points {
             for is_on in [true, false].iter() {
-                let (from, is_on) = (*from, *is_on);
-                let moved = Move { from, far, is_on };
+                let moved = Move {
+                    program,
+                    from: *from,
+                    far,
+                    is_on: *is_on,
+                };
                 if moved.fits(points, flags) {
                     return Some(moved);
                 }
@@ -79,59 +85,45 @@ fn shortest_move(points: &[usize], flags: &[bool]) -> Option<Move> {
 }
 
 /// The shortest move by which the points that a certificate bounds of a program come to such as something names.
-fn move_of(
+fn move_of<'a>(
     alloc: Global,
     cert: &Cert,
-    name: &[u8],
-    code: &[Instruction],
-) -> Result<Option<Move>, AllocError> {
+    program: &'a NamedProgram,
+) -> Result<Option<Move<'a>>, AllocError> {
+    let name = program.name.as_bytes();
     let points = points_of(alloc, cert, name)?;
-    let flags = named_points(alloc, code)?;
-    Ok(shortest_move(&points, &flags))
+    let flags = named_points(alloc, program.program.code())?;
+    Ok(shortest_move(name, &points, &flags))
 }
 
-/// A program whose points have moved, and how.
-#[derive(Clone, Copy)]
-pub(crate) struct MovedProgram<'a> {
-    pub name: &'a [u8],
-    pub by: Move,
-}
-
-/// The programs whose bounds in version 2 or 3 stand at points that nothing names, and would all stand at named ones if some of them
-/// had moved.
-pub(crate) fn moved_programs<'a>(
+/// How the programs have moved whose bounds in version 2 or 3 stand at points that nothing names, and would all stand at named ones if
+/// some of them had moved.
+pub(crate) fn moves<'a>(
     alloc: Global,
     task: &'a Task,
     cert: &Cert,
-) -> Result<Vec<MovedProgram<'a>>, AllocError> {
+) -> Result<Vec<Move<'a>>, AllocError> {
     let mut list = Vec::new(alloc);
     if cert.version() == Version::One {
         return Ok(list);
     }
     for program in task.programs() {
-        let name = program.name.as_bytes();
-        if let Some(by) = move_of(alloc, cert, name, program.program.code())? {
-            if by.far != 0 {
-                list.push(MovedProgram { name, by })?;
-            }
+        match move_of(alloc, cert, program)? {
+            Some(moved) if moved.far != 0 => list.push(moved)?,
+            _ => {}
         }
     }
     Ok(list)
 }
 
-/// Adds that a program's bounds seem to be of an older text.
-fn add_move(page: &mut Page, program: &MovedProgram<'_>) {
-    let way = if program.by.is_on { "on" } else { "back" };
-    say!(page; "the certificate seems to be of an older text of ", program.name);
-    say!(page; ": it bounds points that no jump and no else names now; from point ", program.by.from);
-    say!(page; " on its points would be ", program.by.far, " further ", way);
-    say!(page; " (`capwhy propose TASK CERT` tries that)\n");
-}
-
-/// Adds which programs' points have moved.
+/// Adds of which programs the bounds seem to be of an older text.
 pub(crate) fn add_older(page: &mut Page, task: &Task, cert: &Cert) {
-    let moved = moved_programs(page.alloc(), task, cert);
-    for program in &page.gathered(moved) {
-        add_move(page, program);
+    let moves = moves(page.alloc(), task, cert);
+    for moved in &page.gathered(moves) {
+        let way = if moved.is_on { "on" } else { "back" };
+        say!(page; "the certificate seems to be of an older text of ", moved.program);
+        say!(page; ": it bounds points that no jump and no else names now; from point ", moved.from);
+        say!(page; " on its points would be ", moved.far, " further ", way);
+        say!(page; " (`capwhy propose TASK CERT` tries that)\n");
     }
 }

@@ -2,10 +2,8 @@
 
 ghost use Rattle.std.specs.Prelude.{◌≡◌, ◌++◌, ◌∷◌, [], ℕ, IfOk, List, Option, map, option_map};
 ghost use Rattle.checker.specs.FindingViews.{broken_rule_of};
-ghost use Rattle.explain.specs.Covering.{count_under};
-ghost use Rattle.explain.specs.Telling.{HasHead, Tells, TellsEach, finding_text, head_text, is_same_point, others_text};
+ghost use Rattle.explain.specs.Telling.{HasHead, Tells, TellsEach, finding_text, is_same_point, others_text};
 ghost use Rattle.checker.specs.Findings.{BrokenRule as BrokenRuleSeen};
-ghost use Rattle.task.specs.Plans.{program_name};
 ghost use Rattle.texts.specs.PageViews.{Adds};
 
 use crate::covering::{count_under, is_counted};
@@ -17,16 +15,6 @@ use checker::BrokenRule;
 use std::alloc::{AllocError, Global};
 use texts::{Page, say};
 
-/// Adds the line of a point: its instruction as it is written.
-fn add_head(page: &mut Page, scene: &Scene<'_>, found: BrokenRule)
-    ensures { (line : ℕ) × (written : List ℕ)
-        × Adds page.old page.new (head_text (program_name scene.now.task.now found.program) found.point line written) }
-{
-    let written = scene.written(found.program, found.point);
-    let place = scene.place(found.program, found.point);
-    say!(page; place, ": ", written.text, "\n")
-}
-
 /// Whether a finding is of the same point as the one before it.
 fn is_same_point(before: Option<BrokenRule>, found: BrokenRule) -> bool
     ensures { result ≡ is_same_point (option_map broken_rule_of before) (broken_rule_of found) }
@@ -37,14 +25,16 @@ fn is_same_point(before: Option<BrokenRule>, found: BrokenRule) -> bool
     }
 }
 
-/// Adds the line of a point, if the finding before was of another.
-fn add_new_head(page: &mut Page, scene: &Scene<'_>, before: Option<BrokenRule>, found: BrokenRule)
+/// Adds the line of a point, its instruction as it is written, if the finding before was of another.
+fn add_head(page: &mut Page, scene: &Scene<'_>, before: Option<BrokenRule>, found: BrokenRule)
     ensures { (head : List ℕ)
         × HasHead scene.now.task.now (broken_rule_of found) (is_same_point (option_map broken_rule_of before) (broken_rule_of found)) head
         × Adds page.old page.new head }
 {
     if !is_same_point(before, found) {
-        add_head(page, scene, found)
+        let written = scene.written(found.program, found.point);
+        let place = scene.place(found.program, found.point);
+        say!(page; place, ": ", written.text, "\n")
     }
 }
 
@@ -65,24 +55,6 @@ fn add_others(page: &mut Page, count: usize)
     }
 }
 
-/// Adds a finding of these behind others.
-fn add_finding(
-    page: &mut Page,
-    scene: &Scene<'_>,
-    all: &[BrokenRule],
-    before: Option<BrokenRule>,
-    found: BrokenRule,
-)
-    ensures { (head : List ℕ) × (sentence : List ℕ)
-        × HasHead scene.now.task.now (broken_rule_of found) (is_same_point (option_map broken_rule_of before) (broken_rule_of found)) head
-        × Adds page.old page.new (head ++ (finding_text (broken_rule_of found) sentence
-        ++ others_text (count_under scene.now.task.now scene.now.cert.now (map broken_rule_of all.now) (broken_rule_of found)))) }
-{
-    add_new_head(page, scene, before, found);
-    add_rule(page, scene, found);
-    add_others(page, count_under(scene, all, found))
-}
-
 /// Adds a finding of these behind others, unless it is counted under another. Which one was told last is given.
 fn add_next(
     page: &mut Page,
@@ -100,7 +72,9 @@ fn add_next(
     if is_counted(scene, all, found) {
         return last;
     }
-    add_finding(page, scene, all, last, found);
+    add_head(page, scene, last, found);
+    add_rule(page, scene, found);
+    add_others(page, count_under(scene, all, found));
     Some(found)
 }
 

@@ -10,85 +10,55 @@ use remarks::{
     remarks_on_task,
 };
 use rights::limits::MAX_DESCRIPTORS;
-use rights::{Op, Rights};
 use std::alloc::{AllocError, Global};
 use task::{Grant, NamedProgram};
 use texts::{Page, say};
 
-/// What a remark is about.
-fn topic_of(remark: &Remark) -> Topic {
+/// Adds what is remarked. What it is about is given.
+fn add_text(page: &mut Page, name: &[u8], remark: &Remark) -> Topic {
     match remark {
-        Remark::NeverEnters => Topic::NeverEnters,
-        Remark::Untrusted => Topic::Untrusted,
-        Remark::Unreached { .. } => Topic::Unreached,
-        Remark::Unsettled { .. } => Topic::ModeSkipped,
-        Remark::Stray { .. } => Topic::InNoGrant,
-        Remark::Idle { .. } => Topic::NeverNamed,
-        Remark::Rights { .. } => Topic::RightsUnused,
-        Remark::Commands { .. } => Topic::CommandsUnused,
-        Remark::BothEnds { .. } => Topic::BothEnds,
-        Remark::NeverOpen { .. } => Topic::NeverOpen,
-    }
-}
-
-/// What joins the points to what is remarked.
-fn joint_of(remark: &Remark) -> &'static str {
-    match remark {
-        Remark::NeverEnters
-        | Remark::Idle { .. }
-        | Remark::BothEnds { .. }
-        | Remark::NeverOpen { .. } => ", at ",
-        Remark::Untrusted
-        | Remark::Unreached { .. }
-        | Remark::Unsettled { .. }
-        | Remark::Stray { .. }
-        | Remark::Rights { .. }
-        | Remark::Commands { .. } => " at ",
-    }
-}
-
-/// Adds what is remarked.
-fn add_text(page: &mut Page, name: &[u8], remark: &Remark) {
-    match remark {
-        Remark::NeverEnters =>
-            say!(page; name, " never enters the mode, and a yes does not bound what it does to the tree"),
-        Remark::Untrusted => {
-            say!(page; "in the mode ", name, " may do anything with what its authority has, and its points bound it outside the mode alone")
+        Remark::NeverEnters => {
+            say!(page; name, " never enters the mode, and a yes does not bound what it does to the tree");
+            Topic::NeverEnters
         }
-        Remark::Unreached {
-            outside_alone: false,
-        } => say!(page; "nothing arrives"),
-        Remark::Unreached {
-            outside_alone: true,
-        } => say!(page; "nothing arrives outside the mode"),
-        Remark::Unsettled { .. } => say!(page; "a process may be in the mode or outside it"),
+        Remark::Untrusted => {
+            say!(page; "in the mode ", name, " may do anything with what its authority has, and its points bound it outside the mode alone");
+            Topic::Untrusted
+        }
+        Remark::Unreached { outside_alone } => {
+            say!(page; "nothing arrives");
+            if *outside_alone {
+                say!(page; " outside the mode");
+            }
+            Topic::Unreached
+        }
+        Remark::Unsettled { .. } => {
+            say!(page; "a process may be in the mode or outside it");
+            Topic::ModeSkipped
+        }
         Remark::Stray { number } => {
-            say!(page; "descriptor ", *number, " may hold what lies in no grant, and the report has no line of it, in the mode")
+            say!(page; "descriptor ", *number, " may hold what lies in no grant, and the report has no line of it, in the mode");
+            Topic::InNoGrant
         }
         Remark::Idle { number } => {
-            say!(page; "descriptor ", *number, " is held in the mode and never named from there on, so it can be closed")
+            say!(page; "descriptor ", *number, " is held in the mode and never named from there on, so it can be closed");
+            Topic::NeverNamed
         }
         Remark::Rights { number, most } => {
-            say!(page; "descriptor ", *number, " could be limited to ", *most, ", since no call from there on can use its other rights, in the mode")
+            say!(page; "descriptor ", *number, " could be limited to ", *most, ", since no call from there on can use its other rights, in the mode");
+            Topic::RightsUnused
         }
         Remark::Commands { number, most } => {
-            say!(page; "descriptor ", *number, " could be limited to the commands ", *most, ", since no call from there on can use its others, in the mode")
+            say!(page; "descriptor ", *number, " could be limited to the commands ", *most, ", since no call from there on can use its others, in the mode");
+            Topic::CommandsUnused
         }
         Remark::BothEnds { number, other } => {
-            say!(page; "one process holds both ends of a pair, descriptors ", *number, " and ", *other, ", from there on")
+            say!(page; "one process holds both ends of a pair, descriptors ", *number, " and ", *other, ", from there on");
+            Topic::BothEnds
         }
         Remark::NeverOpen { number } => {
-            say!(page; "descriptor ", *number, " is never open where the instruction names it")
-        }
-    }
-}
-
-/// Adds from where the entering of the mode is skipped.
-fn add_skipping(page: &mut Page, remark: &Remark) {
-    if let Remark::Unsettled { from } = remark {
-        if !from.is_empty() {
-            say!(page; ": cap_enter is skipped from ");
-            add_points(page, from);
+            say!(page; "descriptor ", *number, " is never open where the instruction names it");
+            Topic::NeverOpen
         }
     }
 }
@@ -97,37 +67,33 @@ fn add_skipping(page: &mut Page, remark: &Remark) {
 fn told(alloc: Global, name: &[u8], remarked: Remarked) -> Observation {
     let Remarked { remark, points } = remarked;
     let mut words = Page::new(alloc);
-    add_text(&mut words, name, &remark);
-    let mut more = Page::new(alloc);
-    add_skipping(&mut more, &remark);
-    let is_of_all = matches!(remark, Remark::Untrusted);
-    Observation {
-        topic: topic_of(&remark),
-        words,
-        points: if is_of_all { Vec::new(alloc) } else { points },
-        joint: joint_of(&remark),
-        more,
+    let topic = add_text(&mut words, name, &remark);
+    let mut told = Observation::new(topic, words, points);
+    match &remark {
+        Remark::Untrusted => told.points = Vec::new(alloc),
+        Remark::Unsettled { from } => {
+            if !from.is_empty() {
+                say!(&mut told.more; ": cap_enter is skipped from ");
+                add_points(&mut told.more, from);
+            }
+        }
+        _ => {}
     }
+    told
 }
 
-/// That a number has rights beyond what its grant lists, at some points in the mode.
-fn told_beyond(alloc: Global, number: u32, rights: Rights, points: Vec<usize>) -> Observation {
-    let mut words = Page::new(alloc);
-    say!(&mut words; "descriptor ", number, " has rights beyond what its grant lists, ", rights, ", in the mode");
-    Observation::new(Topic::BeyondPolicy, words, points)
-}
-
-/// Adds which numbers of a program have rights beyond the policy.
+/// Adds which numbers of a program have rights beyond the policy, at some points in the mode.
 fn add_beyond(observed: &mut Observed, scene: &Scene<'_>, named: &NamedProgram) {
     let alloc = observed.alloc();
-    let grants = scene.task.grants();
-    let code = named.program.code();
+    let (grants, code) = (scene.task.grants(), named.program.code());
     let bounds = observed.gathered(bounds_on(alloc, scene.cert, named));
     for number in 0..MAX_DESCRIPTORS as u32 {
         let points = observed.gathered(points_beyond(alloc, grants, code, &bounds, number));
         if !points.is_empty() {
             let rights = beyond_at_all(grants, code, &bounds, number, &points);
-            observed.add(told_beyond(alloc, number, rights, points));
+            let mut words = Page::new(alloc);
+            say!(&mut words; "descriptor ", number, " has rights beyond what its grant lists, ", rights, ", in the mode");
+            observed.add(Observation::new(Topic::BeyondPolicy, words, points));
         }
     }
 }
@@ -164,24 +130,19 @@ fn has_ceiling(cert: &Cert, grant: &Grant) -> bool {
     false
 }
 
-/// That a grant lists an operation that nothing needs.
-fn told_unneeded(alloc: Global, scene: &Scene<'_>, grant: &Grant, operation: Op) -> Observation {
-    let mut words = Page::new(alloc);
-    say!(&mut words; "the grant ", grant.name.as_bytes(), " lists ", operation);
-    say!(&mut words; ", which no call does there in the mode");
-    if has_ceiling(scene.cert, grant) {
-        say!(&mut words; ", and for which no ceiling has a right");
-    }
-    Observation::new(Topic::OperationUnused, words, Vec::new(alloc))
-}
-
 /// Adds which operations grants list that nothing needs.
 fn add_unneeded(observed: &mut Observed, scene: &Scene<'_>) {
     let alloc = observed.alloc();
     for grant in scene.task.grants() {
         let operations = unneeded(alloc, scene.task, scene.cert, grant);
         for operation in &observed.gathered(operations) {
-            observed.add(told_unneeded(alloc, scene, grant, *operation));
+            let mut words = Page::new(alloc);
+            say!(&mut words; "the grant ", grant.name.as_bytes(), " lists ", *operation);
+            say!(&mut words; ", which no call does there in the mode");
+            if has_ceiling(scene.cert, grant) {
+                say!(&mut words; ", and for which no ceiling has a right");
+            }
+            observed.add(Observation::new(Topic::OperationUnused, words, Vec::new(alloc)));
         }
     }
 }

@@ -4,7 +4,7 @@ ghost use Rattle.std.specs.Prelude.{◌≡◌, IfOk, IfSome, OnOk};
 ghost use Rattle.checker.specs.Verdicts.{IsAccepted};
 ghost use Rattle.certificate.specs.Bounds.{has_authorities};
 
-use crate::older::{MovedProgram, moved_programs};
+use crate::older::{Move, moves};
 use certificate::{Cert, Point, Refusal, push_authorities, push_block, push_channels};
 use checker::{Verdict, check};
 use rights::Memory;
@@ -12,11 +12,11 @@ use std::alloc::Global;
 use task::Task;
 
 /// Where a point has come to by some moves; none where no program has such a point.
-fn place_now(moves: &[MovedProgram<'_>], point: &Point) -> Option<u8> {
+fn place_now(moves: &[Move<'_>], point: &Point) -> Option<u8> {
     let mut place = Some(usize::from(point.point()));
     for moved in moves {
-        if moved.name == point.program().as_bytes() {
-            place = moved.by.place(usize::from(point.point()));
+        if moved.program == point.program().as_bytes() {
+            place = moved.place(usize::from(point.point()));
         }
     }
     u8::try_from(place?).ok()
@@ -24,11 +24,7 @@ fn place_now(moves: &[MovedProgram<'_>], point: &Point) -> Option<u8> {
 
 /// Adds points where they have come to. One that has come nowhere is out of order.
 #[tactic(auto, using(certificate::proofs::Growths::grown_keeps))]
-fn push_moved(
-    renewed: &mut Cert,
-    moves: &[MovedProgram<'_>],
-    points: &[Point],
-) -> Result<(), Refusal>
+fn push_moved(renewed: &mut Cert, moves: &[Move<'_>], points: &[Point]) -> Result<(), Refusal>
     ensures { OnOk result (renewed.new.version ≡ renewed.old.version) }
 {
     match points {
@@ -45,7 +41,7 @@ fn push_moved(
 
 /// Adds a certificate's points where they have come to, and all else as it is.
 #[tactic(auto, using(certificate::proofs::Growths::grown_keeps))]
-fn push_all(renewed: &mut Cert, moves: &[MovedProgram<'_>], cert: &Cert) -> Result<(), Refusal>
+fn push_all(renewed: &mut Cert, moves: &[Move<'_>], cert: &Cert) -> Result<(), Refusal>
     requires { renewed.old.version ≡ cert.now.version }
 {
     push_moved(renewed, moves, cert.points())?;
@@ -60,7 +56,7 @@ fn push_all(renewed: &mut Cert, moves: &[MovedProgram<'_>], cert: &Cert) -> Resu
 pub fn renewed(alloc: Global, task: &Task, cert: &Cert) -> Result<Option<Cert>, Memory>
     ensures { IfOk result (λ found. IfSome found (λ renewed. IsAccepted task.now renewed)) }
 {
-    let moves = moved_programs(alloc, task, cert)?;
+    let moves = moves(alloc, task, cert)?;
     let mut renewed = Cert::new(alloc, cert.version());
     match push_all(&mut renewed, &moves, cert) {
         Ok(()) => {}

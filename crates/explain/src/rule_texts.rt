@@ -11,7 +11,15 @@ pub fn rule_title(rule: Rule) -> &'static str {
         Rule::OfCall(CallRule::OneNumber) => "a number that is known",
         Rule::OfCall(CallRule::FreeNumbers) => "a number to take",
         Rule::OfCall(CallRule::NoGlobalPath) => "no global names",
-        Rule::OfCall(CallRule::OfSlot(rule)) => slot_rule_title(rule),
+        Rule::OfCall(CallRule::OfSlot(SlotRule::Rights)) => "rights",
+        Rule::OfCall(CallRule::OfSlot(SlotRule::Commands)) => "fcntl commands",
+        Rule::OfCall(CallRule::OfSlot(SlotRule::Limit)) => "limits only shrink",
+        Rule::OfCall(CallRule::OfSlot(SlotRule::KnownObject)) => "files that are known",
+        Rule::OfCall(CallRule::OfSlot(SlotRule::Policy)) => "the policy",
+        Rule::OfCall(CallRule::OfSlot(SlotRule::KnownNames)) => "names change in grants alone",
+        Rule::OfCall(CallRule::OfSlot(SlotRule::Moves)) => "nothing moves between grants",
+        Rule::OfCall(CallRule::OfSlot(SlotRule::Sent)) => "what is sent",
+        Rule::OfCall(CallRule::OfSlot(SlotRule::Channel)) => "channels that are known",
         Rule::LeadsToBounds => "points that are reached",
         Rule::BoundsOutside => "bounds outside the mode",
         Rule::TakesWithin => "what is carried into the mode",
@@ -19,21 +27,6 @@ pub fn rule_title(rule: Rule) -> &'static str {
         Rule::OfAuthority(AuthorityRule::Moves) => "ceilings and renames",
         Rule::OfAuthority(AuthorityRule::Received) => "what is sent to an untrusted program",
         Rule::OfAuthority(AuthorityRule::Sent) => "what an untrusted program sends",
-    }
-}
-
-/// What a rule on slots is called.
-fn slot_rule_title(rule: SlotRule) -> &'static str {
-    match rule {
-        SlotRule::Rights => "rights",
-        SlotRule::Commands => "fcntl commands",
-        SlotRule::Limit => "limits only shrink",
-        SlotRule::KnownObject => "files that are known",
-        SlotRule::Policy => "the policy",
-        SlotRule::KnownNames => "names change in grants alone",
-        SlotRule::Moves => "nothing moves between grants",
-        SlotRule::Sent => "what is sent",
-        SlotRule::Channel => "channels that are known",
     }
 }
 

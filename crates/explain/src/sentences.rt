@@ -1,22 +1,18 @@
 //! The rules, each in a sentence with what it compares at a point that breaks it.
 
-use crate::arriving::{Leads, add_parts, arrivals, fits};
-use crate::authority_rules::{add_authority, add_beyond};
+use crate::arriving::{Leads, add_narrow, add_unbound};
+use crate::authority_rules::{add_authority, add_started, add_taken};
 use crate::call_rules::{Told, add_call_rule};
 use crate::folding::folded;
 use crate::scenes::{BoundedPoint, Scene};
 use crate::starting::add_start;
-use certificate::{Bound, Domain};
 use checker::starts::is_bounded_start;
 use checker::{AuthorityRule, BrokenRule, CallRule, Rule, SlotRule, instruction_at};
 use instruction_set::Instruction;
 use std::alloc::Global;
 use task::is_marked;
 use texts::{Name, Page, say};
-use transfer::Site;
-
-/// How many arrivals of one rule are told.
-const MOST_TOLD: u32 = 3;
+use transfer::{Site, enters_mode};
 
 /// What a rule asks, in a sentence.
 pub fn rule_words(rule: Rule) -> &'static str {
@@ -62,40 +58,6 @@ fn general_of_slot(rule: SlotRule) -> &'static str {
     }
 }
 
-/// Adds where an instruction leads that a bound there is too narrow for, and in which parts.
-fn add_narrow(page: &mut Page, scene: &Scene<'_>, from: &BoundedPoint<'_>, leads: Leads) {
-    let arrivals = arrivals(page.alloc(), from, leads);
-    let arrivals = page.gathered(arrivals);
-    let mut told = 0u32;
-    for (point, _instruction) in scene.code(from.program).iter().enumerate() {
-        let there = scene.cert.bound_at(from.site.name.as_bytes(), point);
-        let Some(bound) = &there else {
-            continue;
-        };
-        if fits(from, leads, point, &there) {
-            continue;
-        }
-        for arrival in &arrivals {
-            if arrival.point == point && !arrival.bound.within(bound) && told < MOST_TOLD {
-                told += 1;
-                say!(page; "; it leads to ", scene.place(from.program, point as u8));
-                add_parts(page, &arrival.bound, bound);
-            }
-        }
-    }
-}
-
-/// Adds where it leads that has no bound.
-fn add_unbound(page: &mut Page, scene: &Scene<'_>, from: &BoundedPoint<'_>) {
-    for (point, _instruction) in scene.code(from.program).iter().enumerate() {
-        let there = scene.cert.bound_at(from.site.name.as_bytes(), point);
-        if there.is_none() && !fits(from, Leads::Anywhere, point, &there) {
-            let place = scene.place(from.program, point as u8);
-            say!(page; "; it leads to ", place, ", which has none");
-        }
-    }
-}
-
 /// Adds which processes start otherwise than the bound of point 0 says.
 fn add_starts(page: &mut Page, scene: &Scene<'_>, at: &BoundedPoint<'_>) {
     let marked = is_marked(scene.task.programs(), at.site.name.as_bytes());
@@ -108,27 +70,34 @@ fn add_starts(page: &mut Page, scene: &Scene<'_>, at: &BoundedPoint<'_>) {
 
 /// Adds what a rule compares at a point with a bound.
 fn add_compared(page: &mut Page, scene: &Scene<'_>, at: &BoundedPoint<'_>, rule: Rule) {
+    let (name, bound) = (at.site.name, at.site.bound);
     match rule {
         Rule::StartsWithin => add_starts(page, scene, at),
         Rule::SuccessesWithin => add_narrow(page, scene, at, Leads::BySuccess),
         Rule::ErrorsWithin => add_narrow(page, scene, at, Leads::ByError),
         Rule::OfCall(rule) => {
             if let Instruction::Invoke { call, .. } = at.instruction {
-                let bound = at.site.bound;
                 add_call_rule(page, &Told { scene, bound, call }, rule)
             }
         }
         Rule::LeadsToBounds => add_unbound(page, scene, at),
-        Rule::BoundsOutside => say!(page; "; the bound has the mode ", at.site.bound.mode()),
-        Rule::TakesWithin => add_beyond(page, scene, at.site.name, at.program, Some(at)),
-        Rule::OfAuthority(rule) => add_authority(page, scene, at.site.name, rule),
+        Rule::BoundsOutside => say!(page; "; the bound has the mode ", bound.mode()),
+        Rule::TakesWithin => {
+            if enters_mode(at.instruction) {
+                add_taken(page, scene, name, bound);
+            }
+            if at.site.point == 0 {
+                add_started(page, scene, name, at.program)
+            }
+        }
+        Rule::OfAuthority(rule) => add_authority(page, scene, name, rule),
     }
 }
 
 /// Adds what it compares at one without, which is asked few rules.
 fn add_without(page: &mut Page, scene: &Scene<'_>, name: &Name, program: u8, rule: Rule) {
     match rule {
-        Rule::TakesWithin => add_beyond(page, scene, name, program, None),
+        Rule::TakesWithin => add_started(page, scene, name, program),
         Rule::OfAuthority(rule) => add_authority(page, scene, name, rule),
         Rule::StartsWithin
         | Rule::SuccessesWithin
@@ -142,31 +111,29 @@ fn add_without(page: &mut Page, scene: &Scene<'_>, name: &Name, program: u8, rul
 /// Adds what a rule compares at its point.
 fn add_detail(page: &mut Page, scene: &Scene<'_>, found: BrokenRule) {
     let (program, point) = (found.program, found.point);
+    let (task, cert) = (scene.task, scene.cert);
     let (Some(named), Some(instruction)) = (
-        scene.task.programs().get(usize::from(program)),
-        instruction_at(scene.task, program, point),
+        task.programs().get(usize::from(program)),
+        instruction_at(task, program, point),
     ) else {
         return;
     };
     let name = &named.name;
-    match scene.cert.bound_at(name.as_bytes(), usize::from(point)) {
-        Some(bound) => {
-            let site = Site {
-                task: scene.task,
-                cert: scene.cert,
-                name,
-                point,
-                bound: &bound,
-            };
-            let at = BoundedPoint {
-                site,
-                program,
-                instruction,
-            };
-            add_compared(page, scene, &at, found.rule)
-        }
-        None => add_without(page, scene, name, program, found.rule),
-    }
+    let Some(bound) = &cert.bound_at(name.as_bytes(), usize::from(point)) else {
+        return add_without(page, scene, name, program, found.rule);
+    };
+    let at = BoundedPoint {
+        site: Site {
+            task,
+            cert,
+            name,
+            point,
+            bound,
+        },
+        program,
+        instruction,
+    };
+    add_compared(page, scene, &at, found.rule)
 }
 
 /// What a rule that is broken at a point asks, and what it compares there, in one line.

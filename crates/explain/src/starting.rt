@@ -2,11 +2,11 @@
 
 ghost use Rattle.std.specs.Prelude.{None};
 
-use crate::breaking::{registers_not_begun, slots_not_begun};
+use crate::breaking::PartTest;
 use crate::scenes::Scene;
-use certificate::{Bound, Slot};
+use certificate::Bound;
 use checker::starts::{mode_describes, with_number};
-use task::{FirstDescriptor, FirstObject, Start, node_text};
+use task::{FirstObject, Start, node_text};
 use texts::{Page, Say, say};
 
 /// What a first descriptor of a task is of.
@@ -30,39 +30,28 @@ impl<'a> Say for Object<'a> {
     }
 }
 
-/// Adds what a process starts with at a number, and what the bound has there.
-fn add_first(
-    page: &mut Page,
-    scene: &Scene<'_>,
-    number: u8,
-    slot: Slot,
-    first: Option<FirstDescriptor>,
-) {
-    say!(page; "; descriptor ", number, " starts ");
-    match first {
-        None => say!(page; "closed"),
-        Some(first) => {
-            let of = first.object;
-            say!(page; "as ", Object { scene, of }, " with ", first.rights)
-        }
-    }
-    say!(page; ", the bound has ", slot)
-}
-
 /// Adds in which parts a bound doesn't describe the first state of a process.
 pub(crate) fn add_start(page: &mut Page, scene: &Scene<'_>, bound: &Bound, start: &Start) {
     if !mode_describes(bound.mode(), start.mode) {
         let mode = if start.mode { "on" } else { "off" };
         say!(page; "; the mode starts ", mode, ", the bound has ", bound.mode());
     }
-    let registers = registers_not_begun(page.alloc(), bound);
+    let registers = PartTest::RegisterBegins { bound }.failing(page.alloc());
     for register in &page.gathered(registers) {
         let most = bound.interval(*register);
         say!(page; "; r", *register, " starts as 0, the bound has ", most);
     }
-    let numbers = slots_not_begun(page.alloc(), scene.task, bound, start);
+    let task = scene.task;
+    let numbers = PartTest::SlotBegins { task, bound, start }.failing(page.alloc());
     for number in &page.gathered(numbers) {
-        let first = with_number(&start.descriptors, usize::from(*number));
-        add_first(page, scene, *number, bound.slot(u32::from(*number)), first);
+        say!(page; "; descriptor ", *number, " starts ");
+        match with_number(&start.descriptors, usize::from(*number)) {
+            None => say!(page; "closed"),
+            Some(first) => {
+                let of = first.object;
+                say!(page; "as ", Object { scene: &*scene, of }, " with ", first.rights)
+            }
+        }
+        say!(page; ", the bound has ", bound.slot(u32::from(*number)));
     }
 }

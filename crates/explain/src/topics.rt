@@ -82,6 +82,14 @@ impl Topic {
         }
     }
 
+    /// What joins the points to what is said of it.
+    pub(crate) fn joint(self) -> &'static str {
+        match self {
+            Topic::NeverEnters | Topic::NeverNamed | Topic::BothEnds | Topic::NeverOpen => ", at ",
+            _ => " at ",
+        }
+    }
+
     /// What it means, in a sentence.
     pub fn meaning(self) -> &'static str {
         match self {

@@ -8,7 +8,7 @@ use remarks::{
     widest_ceilings,
 };
 use std::alloc::{AllocError, Global};
-use task::{FirstDescriptor, Start, Task};
+use task::{FirstDescriptor, Task};
 use texts::{Name, Page, say};
 
 /// What is warned of.
@@ -32,28 +32,21 @@ enum Subject {
     Ceiling(Name),
 }
 
-/// What FreeBSD does in a call that is otherwise, and what to write.
-fn text_of_difference(difference: Difference) -> &'static str {
-    match difference {
-        Difference::AbsolutePath =>
-            "outside the mode an absolute path is looked up from the root, with all rights; write open",
-        Difference::WayOut =>
-            "outside the mode `..` and links lead out of a directory that isn't limited; write a limit before it",
-        Difference::LastLink =>
-            "outside the mode a file is made where a last link leads, beneath a directory that isn't limited; write a limit before it",
-        Difference::CommandsGone =>
-            "a descriptor without FCNTL has no command to keep; write this limit before that of rights, or none",
-        Difference::NoNumberLeft =>
-            "all sixteen numbers may be open, and a process may have more; write a close before it",
-        Difference::UnlistedLook =>
-            "LOOKUP reads the texts of links, and READ lists a directory; write look into the grant's ops",
-    }
-}
-
 /// What FreeBSD does there, and what to write.
 fn text_of(matter: Matter) -> &'static str {
     match matter {
-        Matter::Differs(difference) => text_of_difference(difference),
+        Matter::Differs(Difference::AbsolutePath) =>
+            "outside the mode an absolute path is looked up from the root, with all rights; write open",
+        Matter::Differs(Difference::WayOut) =>
+            "outside the mode `..` and links lead out of a directory that isn't limited; write a limit before it",
+        Matter::Differs(Difference::LastLink) =>
+            "outside the mode a file is made where a last link leads, beneath a directory that isn't limited; write a limit before it",
+        Matter::Differs(Difference::CommandsGone) =>
+            "a descriptor without FCNTL has no command to keep; write this limit before that of rights, or none",
+        Matter::Differs(Difference::NoNumberLeft) =>
+            "all sixteen numbers may be open, and a process may have more; write a close before it",
+        Matter::Differs(Difference::UnlistedLook) =>
+            "LOOKUP reads the texts of links, and READ lists a directory; write look into the grant's ops",
         Matter::FailedClose =>
             "a close that fails may free the number; write an else that leads to a halt",
         Matter::NoSandbox =>
@@ -74,28 +67,17 @@ fn text_of(matter: Matter) -> &'static str {
 /// The part of docs/FREEBSD.md that says more.
 fn part_of(matter: Matter) -> &'static str {
     match matter {
-        Matter::Differs(difference) => match difference {
-            Difference::AbsolutePath => "absolute-paths",
-            Difference::WayOut => "ways-out-of-a-directory",
-            Difference::LastLink => "a-last-link-that-is-created",
-            Difference::CommandsGone => "commands-without-fcntl",
-            Difference::NoNumberLeft => "sixteen-numbers",
-            Difference::UnlistedLook => "what-a-right-does-beyond-its-calls",
-        },
+        Matter::Differs(Difference::AbsolutePath) => "absolute-paths",
+        Matter::Differs(Difference::WayOut) => "ways-out-of-a-directory",
+        Matter::Differs(Difference::LastLink) => "a-last-link-that-is-created",
+        Matter::Differs(Difference::CommandsGone) => "commands-without-fcntl",
+        Matter::Differs(Difference::NoNumberLeft) => "sixteen-numbers",
+        Matter::Differs(Difference::UnlistedLook) | Matter::Directory | Matter::PryingCeiling =>
+            "what-a-right-does-beyond-its-calls",
         Matter::FailedClose => "a-close-that-fails",
         Matter::NoSandbox => "no-sandbox-at-all",
         Matter::TakesMore | Matter::StartsWithMore | Matter::WidestCeiling =>
             "more-calls-and-rights",
-        Matter::Directory | Matter::PryingCeiling => "what-a-right-does-beyond-its-calls",
-    }
-}
-
-/// Adds what it is warned of.
-fn add_subject(page: &mut Page, subject: Subject) {
-    match subject {
-        Subject::Call => {}
-        Subject::Descriptor(number) => say!(page; "descriptor ", number, " "),
-        Subject::Ceiling(grant) => say!(page; "a ceiling on ", grant.as_bytes(), " "),
     }
 }
 
@@ -103,7 +85,11 @@ fn add_subject(page: &mut Page, subject: Subject) {
 fn add(observed: &mut Observed, point: usize, subject: Subject, matter: Matter) {
     let alloc = observed.alloc();
     let mut words = Page::new(alloc);
-    add_subject(&mut words, subject);
+    match subject {
+        Subject::Call => {}
+        Subject::Descriptor(number) => say!(&mut words; "descriptor ", number, " "),
+        Subject::Ceiling(grant) => say!(&mut words; "a ceiling on ", grant.as_bytes(), " "),
+    }
     say!(&mut words; text_of(matter));
     let points = observed.gathered(Vec::from_slice(alloc, &[point]));
     observed.add(Observation::new(Topic::FreeBsd(part_of(matter)), words, points))
@@ -132,42 +118,30 @@ fn add_point(observed: &mut Observed, point: usize, warnings: &Warnings) {
 }
 
 /// Adds a warning of each of some ceilings.
-fn add_each(observed: &mut Observed, ceilings: &[Ceiling], matter: Matter) {
-    for ceiling in ceilings {
+fn add_ceilings(
+    observed: &mut Observed,
+    ceilings: Result<Vec<Ceiling>, AllocError>,
+    matter: Matter,
+) {
+    for ceiling in &observed.gathered(ceilings) {
         add(observed, 0, Subject::Ceiling(*ceiling.grant()), matter);
     }
 }
 
-/// Adds the ceilings of an untrusted program that have all rights, and those that let names be looked up where the grant doesn't list
-/// looking.
-fn add_ceilings(observed: &mut Observed, task: &Task, bounds: &Cert, name: &Name) {
-    let widest = widest_ceilings(observed.alloc(), bounds, name);
-    let widest = observed.gathered(widest);
-    add_each(observed, &widest, Matter::WidestCeiling);
-    let prying = prying_ceilings(observed.alloc(), task.grants(), bounds, name);
-    let prying = observed.gathered(prying);
-    add_each(observed, &prying, Matter::PryingCeiling);
-}
-
-/// Adds a warning of each first descriptor among these.
-fn add_first(observed: &mut Observed, descriptors: &[FirstDescriptor], matter: Matter) {
-    for first in descriptors {
+/// Adds a warning of each of some first descriptors.
+fn add_first(
+    observed: &mut Observed,
+    descriptors: Result<Vec<FirstDescriptor>, AllocError>,
+    matter: Matter,
+) {
+    for first in &observed.gathered(descriptors) {
         let number = u32::from(first.number);
         add(observed, 0, Subject::Descriptor(number), matter);
     }
 }
 
-/// Adds what a process of an untrusted program that starts in the mode has more of, and its directories that can be listed.
-fn add_start(observed: &mut Observed, task: &Task, start: &Start) {
-    let more = more_at_start(observed.alloc(), start);
-    let more = observed.gathered(more);
-    add_first(observed, &more, Matter::StartsWithMore);
-    let directories = directories_at_start(observed.alloc(), task, start);
-    let directories = observed.gathered(directories);
-    add_first(observed, &directories, Matter::Directory)
-}
-
-/// The warnings on a program of a task, by its number and by the bounds of a certificate in which all are written.
+/// The warnings on a program of a task, by its number and by the bounds of a certificate in which all are written: at its points, of
+/// its ceilings, and of what its processes start with in the mode, if it is untrusted.
 pub fn program_warnings(
     alloc: Global,
     task: &Task,
@@ -180,12 +154,16 @@ pub fn program_warnings(
         add_point(&mut observed, point, warnings);
     }
     if let Some(named) = task.programs().get(program) {
-        add_ceilings(&mut observed, task, bounds, &named.name);
-        if named.untrusted {
-            for start in task.starts() {
-                if start.mode && usize::from(start.program) == program {
-                    add_start(&mut observed, task, start);
-                }
+        let widest = widest_ceilings(alloc, bounds, &named.name);
+        add_ceilings(&mut observed, widest, Matter::WidestCeiling);
+        let prying = prying_ceilings(alloc, task.grants(), bounds, &named.name);
+        add_ceilings(&mut observed, prying, Matter::PryingCeiling);
+        for start in task.starts() {
+            if named.untrusted && start.mode && usize::from(start.program) == program {
+                let more = more_at_start(alloc, start);
+                add_first(&mut observed, more, Matter::StartsWithMore);
+                let directories = directories_at_start(alloc, task, start);
+                add_first(&mut observed, directories, Matter::Directory);
             }
         }
     }

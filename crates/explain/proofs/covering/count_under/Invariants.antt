@@ -1,7 +1,7 @@
 use Rattle.std.proofs.Common.{◌≡◌, ◌≤◌, filter, length, map, take}
 use Rattle.checker.specs.FindingViews.{broken_rule_of}
 use Rattle.explain.specs.Covering.{covers}
-use Rattle.explain.proofs.covering.how_many.Given as goal
+use Rattle.explain.proofs.covering.count_under.Given as goal
 
 -- so many of those so far are covered
 abbrev pub invariant-loop-later : goal.invariant-loop-later
