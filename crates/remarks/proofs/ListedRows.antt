@@ -7,7 +7,7 @@ use Rattle.certificate.specs.Bounds.{Bound, ModeBound, Off, On, Held, In_grant, 
 use Rattle.instruction_set.specs.Programs.{Instruction, Jmp, Halt, Invoke, Cap_enter, Read, Number}
 use Rattle.rules.specs.Slots.{slots_in}
 use Rattle.task.specs.Plans.{Start}
-use Rattle.remarks.specs.Listed.{Never_enters, Untrusted, Unreached, Rights_left, Never_open, limits, never_enters, never_open_at, on_whole, unreached}
+use Rattle.remarks.specs.Listed.{Never_enters, Untrusted, Rights_left, Never_open, limits, never_enters, never_open_at, on_whole, unreached}
 use Rattle.remarks.specs.Ways.{rounds}
 
 abbrev held : RightSet → Held

@@ -8,3 +8,4 @@ pub mod Uses
 pub mod Marked
 pub mod Beyond
 pub mod Unneeded
+pub mod PointViews

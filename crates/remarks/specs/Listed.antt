@@ -4,7 +4,7 @@ use Rattle.std.specs.List.{flat_map, list_any, range_with_len, slice_get}
 use Rattle.rights.specs.Limits.{most_descriptors}
 use Rattle.rights.specs.Sets.{is_within}
 use Rattle.rights.specs.Values.{CommandSet, DescriptorNumber, RightSet}
-use Rattle.certificate.specs.Bounds.{Bound, Certificate, Held, Slot, held_in, slot}
+use Rattle.certificate.specs.Bounds.{Bound, Certificate, Held, held_in, slot}
 use Rattle.certificate.specs.Order.{slot_within}
 use Rattle.instruction_set.specs.Programs.{Instruction, Invoke, Operand, Register, Number}
 use Rattle.rules.specs.Needs.{Through, needs}

@@ -1,5 +1,5 @@
 -- What calls need of what a descriptor may be of. (own)
-use Rattle.std.specs.Prelude.{◌||◌, not, ℕ, Bool, true, false, if◌then◌else◌, List, [], ◌∷◌, Option, Some, None, bit_or, length, map}
+use Rattle.std.specs.Prelude.{◌||◌, not, ℕ, Bool, false, if◌then◌else◌, List, [], ◌∷◌, Option, Some, None, bit_or, length, map}
 use Rattle.std.specs.List.{list_all, slice_get, slice_index_or}
 use Rattle.certificate.specs.Bounds.{Bound, Held, Target}
 use Rattle.certificate.specs.Order.{target_within}

@@ -1,19 +1,18 @@
 //! A program whose points have bounds, and at which of them something holds.
 
-ghost use Rattle.std.specs.Prelude.{◌≡◌, ◌&&◌, ◌||◌, ◌==◌, ◌<◌, IfOk, not, option_map, true};
+ghost use Rattle.std.specs.Prelude.{◌≡◌, ◌&&◌, ◌||◌, ◌==◌, ◌<◌, IfOk, filter, map, not, option_map, true};
 ghost use Rattle.std.specs.List.{list_any};
-ghost use Rattle.certificate.specs.Views.{bound_of, held_of, mode_of, target_of};
+ghost use Rattle.certificate.specs.Views.{bound_of, held_of, target_of};
+ghost use Rattle.remarks.specs.PointViews.{holds};
 ghost use Rattle.remarks.specs.RemarkViews.{bounds_of};
-ghost use Rattle.remarks.specs.Remarks.{are_sides, begins_way, bound_here, closing_points, doubled, has_both, held_here, holds_so, idle, is_doubled};
-ghost use Rattle.remarks.specs.Remarks.{is_either, is_either_at, is_fork, is_halt, stays_idle, is_led_by, is_off_at, is_on_at, is_skipping, is_stray, is_there, is_working};
-ghost use Rattle.remarks.specs.Remarks.{lies_nowhere, may_be_number, may_be_sent, parts_at, may_close, may_go_through, may_name_number, naming_points, skipping, strays, unsettled};
-ghost use Rattle.remarks.specs.Remarks.{working_points};
+ghost use Rattle.remarks.specs.Remarks.{are_sides, begins_way, bound_here, doubled, has_both, held_here, idle, is_doubled};
+ghost use Rattle.remarks.specs.Remarks.{is_either_at, is_fork, is_halt, stays_idle, is_led_by, is_off_at, is_on_at, is_skipping, is_stray, is_there, is_working};
+ghost use Rattle.remarks.specs.Remarks.{may_be_number, parts_at, may_close, may_go_through, may_name_number};
 ghost use Rattle.remarks.specs.Ways.{from_which, is_flagged, points};
-ghost use Rattle.instruction_set.specs.Views.{code_of, instruction_of, operand_of, successors_of, syscall_of};
-ghost use Rattle.rights.specs.Limits.{most_descriptors};
+ghost use Rattle.instruction_set.specs.Views.{code_of, instruction_of, operand_of, successors_of};
 ghost use Rattle.rules.specs.Outcomes.{enters_mode as enters_mode_seen};
 ghost use Rattle.rules.specs.Slots.{may_be_on};
-ghost use Rattle.transfer.specs.Views.{passed_of, through_of};
+ghost use Rattle.transfer.specs.Views.{through_of};
 
 use crate::ways::{count, from_which, is_flagged};
 use certificate::{Bound, Domain, Held, ModeBound, Target};
@@ -28,6 +27,51 @@ pub(crate) struct Bounded<'a> {
     pub code: &'a [Instruction],
     pub untrusted: bool,
     pub bounds: Vec<Option<Bound>>,
+}
+
+/// What may hold at a point of a program.
+#[derive(Clone, Copy)]
+pub(crate) enum PointTest<'f> {
+    /// It has a bound.
+    Bounded,
+    /// Its instruction is a call,
+    Calls,
+    /// one that works on what a descriptor is of,
+    Works,
+    /// one that may name a number,
+    Names(u32),
+    /// or one that may close it.
+    Closes(u32),
+    /// In the mode, a number may hold there what lies in no grant.
+    Stray(u32),
+    /// A process may be there in the mode or outside it, and goes on.
+    Unsettled,
+    /// A process comes from there to such a point without entering the mode.
+    Skipping,
+    /// The same two of a marked program, by the flags of the points at which a process may be in the mode or not.
+    UnsettledMarked(&'f [bool]),
+    SkippingMarked(&'f [bool]),
+    /// A process may be there in the mode or, where the bounds don't tell what comes behind it, enter it there.
+    MayEnter {
+        is_untold: bool,
+    },
+    /// In the mode, a way begins there with a number open that no instruction names from there on, where some work on others.
+    Idle {
+        named: &'f [bool],
+        worked: &'f [bool],
+        number: u32,
+    },
+    /// Two numbers may be both ends of a pair there,
+    Both(u32, u32),
+    /// and stay open from there on, and the point goes on.
+    Doubled {
+        closed: &'f [bool],
+        others: &'f [bool],
+        number: u32,
+        other: u32,
+    },
+    /// It isn't flagged.
+    Unflagged(&'f [bool]),
 }
 
 /// Whether it may be an end of each side of the same pair.
@@ -195,24 +239,6 @@ impl<'a> Bounded<'a> {
             }
     }
 
-    /// The points at which, in the mode, a number may hold what lies in no grant.
-    pub(crate) fn strays(&self, alloc: Global, number: u32) -> Result<Vec<usize>, AllocError>
-        ensures { IfOk result (λ found. found.items ≡ strays (code_of self.now.code.now) (bounds_of self.now.bounds.items) number) }
-    {
-        (0..count(self.code))
-            .filter(|point| self.is_stray(number, *point))
-            .collect(alloc)
-    }
-
-    /// The points that go on, at which a process may be in the mode or outside it.
-    pub(crate) fn unsettled(&self, alloc: Global) -> Result<Vec<usize>, AllocError>
-        ensures { IfOk result (λ found. found.items ≡ unsettled (code_of self.now.code.now) (bounds_of self.now.bounds.items)) }
-    {
-        (0..count(self.code))
-            .filter(|point| self.is_either_at(*point) && !self.is_halt_at(*point))
-            .collect(alloc)
-    }
-
     /// Whether one of these is a point where the mode may be either.
     fn leads_to_either(&self, successors: Successors) -> bool
         ensures { result ≡ list_any (is_either_at (bounds_of self.now.bounds.items)) (successors_of successors) }
@@ -235,15 +261,6 @@ impl<'a> Bounded<'a> {
         self.is_off_at(point)
             && !self.enters_at(point)
             && self.leads_to_either(successors_at(self.code, point))
-    }
-
-    /// The points from which a process comes, without entering the mode, to one where it may be in it or not.
-    pub(crate) fn skipping(&self, alloc: Global) -> Result<Vec<usize>, AllocError>
-        ensures { IfOk result (λ found. found.items ≡ skipping (code_of self.now.code.now) (bounds_of self.now.bounds.items)) }
-    {
-        (0..count(self.code))
-            .filter(|point| self.is_skipping(*point))
-            .collect(alloc)
     }
 
     /// Whether the instruction there may name a number.
@@ -340,56 +357,75 @@ impl<'a> Bounded<'a> {
 }
 
 impl<'a> Bounded<'a> {
-    /// Whether each instruction may name a number.
-    fn naming_here(&self, alloc: Global, number: u32) -> Result<Vec<bool>, AllocError>
-        ensures { IfOk result (λ found. found.items ≡ naming_points (code_of self.now.code.now) (bounds_of self.now.bounds.items) number) }
+    /// Whether something holds at a point.
+    fn holds(&self, test: PointTest<'_>, point: usize) -> bool
+        ensures { result ≡ holds (code_of self.now.code.now) (bounds_of self.now.bounds.items) test.entry point }
     {
-        (0..count(self.code))
-            .map(|point| self.names_at(number, point))
-            .collect(alloc)
+        match test {
+            PointTest::Bounded => self.bound_here(point).is_some(),
+            PointTest::Calls => self.calls_at(point),
+            PointTest::Works => self.works_at(point),
+            PointTest::Names(number) => self.names_at(number, point),
+            PointTest::Closes(number) => self.closes_at(number, point),
+            PointTest::Stray(number) => self.is_stray(number, point),
+            PointTest::Unsettled => self.is_either_at(point) && !self.is_halt_at(point),
+            PointTest::Skipping => self.is_skipping(point),
+            PointTest::UnsettledMarked(mixed) => self.goes_on_mixed(mixed, point),
+            PointTest::SkippingMarked(mixed) => self.is_skipping_marked(mixed, point),
+            PointTest::MayEnter { is_untold } => self.may_enter_at(is_untold, point),
+            PointTest::Idle {
+                named,
+                worked,
+                number,
+            } => self.stays_idle(named, worked, number, point),
+            PointTest::Both(number, other) => self.has_both_at(number, other, point),
+            PointTest::Doubled {
+                closed,
+                others,
+                number,
+                other,
+            } => self.is_doubled(closed, others, number, other, point),
+            PointTest::Unflagged(flags) => !is_flagged(flags, point),
+        }
     }
 
-    /// The points from which an instruction comes that may name a number.
-    fn naming_points(&self, alloc: Global, number: u32) -> Result<Vec<bool>, AllocError>
+    /// The points at which something holds.
+    pub(crate) fn points_where(
+        &self,
+        alloc: Global,
+        test: PointTest<'_>,
+    ) -> Result<Vec<usize>, AllocError>
         ensures { IfOk result (λ found. found.items
-            ≡ from_which (code_of self.now.code.now) (naming_points (code_of self.now.code.now) (bounds_of self.now.bounds.items) number)) }
-    {
-        let here = self.naming_here(alloc, number)?;
-        from_which(alloc, self.code, here)
-    }
-
-    /// Whether each instruction may close a number.
-    fn closing_here(&self, alloc: Global, number: u32) -> Result<Vec<bool>, AllocError>
-        ensures { IfOk result (λ found. found.items ≡ closing_points (code_of self.now.code.now) (bounds_of self.now.bounds.items) number) }
+            ≡ filter (holds (code_of self.now.code.now) (bounds_of self.now.bounds.items) test.entry) (points (code_of self.now.code.now))) }
     {
         (0..count(self.code))
-            .map(|point| self.closes_at(number, point))
+            .filter(|point| self.holds(test, *point))
             .collect(alloc)
     }
 
-    /// The points from which an instruction comes that may close a number.
-    fn closing_points(&self, alloc: Global, number: u32) -> Result<Vec<bool>, AllocError>
+    /// Whether something holds at each point.
+    pub(crate) fn flags(&self, alloc: Global, test: PointTest<'_>) -> Result<Vec<bool>, AllocError>
         ensures { IfOk result (λ found. found.items
-            ≡ from_which (code_of self.now.code.now) (closing_points (code_of self.now.code.now) (bounds_of self.now.bounds.items) number)) }
-    {
-        let here = self.closing_here(alloc, number)?;
-        from_which(alloc, self.code, here)
-    }
-
-    /// Whether each instruction works on what a descriptor is of.
-    fn working_here(&self, alloc: Global) -> Result<Vec<bool>, AllocError>
-        ensures { IfOk result (λ found. found.items ≡ working_points (code_of self.now.code.now)) }
+            ≡ map (holds (code_of self.now.code.now) (bounds_of self.now.bounds.items) test.entry) (points (code_of self.now.code.now))) }
     {
         (0..count(self.code))
-            .map(|point| self.works_at(point))
+            .map(|point| self.holds(test, point))
             .collect(alloc)
     }
 
-    /// The points from which a call comes that works on what a descriptor is of.
-    fn working_points(&self, alloc: Global) -> Result<Vec<bool>, AllocError>
-        ensures { IfOk result (λ found. found.items ≡ from_which (code_of self.now.code.now) (working_points (code_of self.now.code.now))) }
+    /// Whether something holds at some point.
+    pub(crate) fn any_point(&self, test: PointTest<'_>) -> bool
+        ensures { result ≡ list_any (holds (code_of self.now.code.now) (bounds_of self.now.bounds.items) test.entry) (points (code_of self.now.code.now)) }
     {
-        let here = self.working_here(alloc)?;
+        (0..count(self.code)).any(|point| self.holds(test, point))
+    }
+
+    /// The points from which one comes at which something holds.
+    pub(crate) fn ahead(&self, alloc: Global, test: PointTest<'_>) -> Result<Vec<bool>, AllocError>
+        ensures { IfOk result (λ found. found.items ≡ from_which (code_of self.now.code.now)
+            (map (holds (code_of self.now.code.now) (bounds_of self.now.bounds.items) test.entry) (points (code_of self.now.code.now)))) }
+    {
+        let here = self.flags(alloc, test)?;
         from_which(alloc, self.code, here)
     }
 
@@ -408,11 +444,16 @@ impl<'a> Bounded<'a> {
     pub(crate) fn idle(&self, alloc: Global, number: u32) -> Result<Vec<usize>, AllocError>
         ensures { IfOk result (λ found. found.items ≡ idle (code_of self.now.code.now) (bounds_of self.now.bounds.items) number) }
     {
-        let named = self.naming_points(alloc, number)?;
-        let worked = self.working_points(alloc)?;
-        (0..count(self.code))
-            .filter(|point| self.stays_idle(&named, &worked, number, *point))
-            .collect(alloc)
+        let named = self.ahead(alloc, PointTest::Names(number))?;
+        let worked = self.ahead(alloc, PointTest::Works)?;
+        self.points_where(
+            alloc,
+            PointTest::Idle {
+                named: &named,
+                worked: &worked,
+                number,
+            },
+        )
     }
 
     /// Whether two numbers may be both ends of a pair there.
@@ -451,20 +492,19 @@ impl<'a> Bounded<'a> {
     ) -> Result<Vec<usize>, AllocError>
         ensures { IfOk result (λ found. found.items ≡ doubled (code_of self.now.code.now) (bounds_of self.now.bounds.items) number other) }
     {
-        if !self.ever_has_both(number, other) {
+        if !self.any_point(PointTest::Both(number, other)) {
             return Ok(Vec::new(alloc));
         }
-        let closed = self.closing_points(alloc, number)?;
-        let others = self.closing_points(alloc, other)?;
-        (0..count(self.code))
-            .filter(|point| self.is_doubled(&closed, &others, number, other, *point))
-            .collect(alloc)
-    }
-
-    /// Whether two numbers may be both ends of a pair somewhere.
-    fn ever_has_both(&self, number: u32, other: u32) -> bool
-        ensures { result ≡ list_any (has_both (bounds_of self.now.bounds.items) number other) (points (code_of self.now.code.now)) }
-    {
-        (0..count(self.code)).any(|point| self.has_both_at(number, other, point))
+        let closed = self.ahead(alloc, PointTest::Closes(number))?;
+        let others = self.ahead(alloc, PointTest::Closes(other))?;
+        self.points_where(
+            alloc,
+            PointTest::Doubled {
+                closed: &closed,
+                others: &others,
+                number,
+                other,
+            },
+        )
     }
 }

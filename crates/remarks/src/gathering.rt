@@ -1,10 +1,10 @@
 //! How the remarks on a program are gathered, in their order.
 
-ghost use Rattle.std.specs.Prelude.{◌≡◌, ◌&&◌, ◌||◌, IfOk, OnOk, map, not, option_map};
+ghost use Rattle.std.specs.Prelude.{◌≡◌, ◌&&◌, ◌||◌, IfOk, OnOk, not, option_map};
 ghost use Rattle.std.specs.List.{flat_map, list_any, slice_get};
 ghost use Rattle.certificate.specs.Views.{bound_of};
 ghost use Rattle.instruction_set.specs.Views.{code_of, instruction_of};
-ghost use Rattle.remarks.specs.Listed.{arrived, closed_there, closed_through, has_bound, may_enter_at, mixed_remarks, never_enters};
+ghost use Rattle.remarks.specs.Listed.{arrived, closed_there, closed_through, may_enter_at, mixed_remarks, never_enters};
 ghost use Rattle.remarks.specs.Listed.{never_open_at, numbers, on_bounds, on_code, on_ends, on_held, on_number, on_numbers, on_points, on_whole};
 ghost use Rattle.remarks.specs.Listed.{starts_outside, unreached, unreached_remarks, where_so};
 ghost use Rattle.remarks.specs.RemarkViews.{AddsRemarks, bounds_of, remark_of};
@@ -12,7 +12,7 @@ ghost use Rattle.remarks.specs.Ways.{points};
 ghost use Rattle.task.specs.Views.{starts_of};
 ghost use Rattle.transfer.specs.Views.{through_of};
 
-use crate::bounded::Bounded;
+use crate::bounded::{Bounded, PointTest};
 use crate::remarks::{Remark, Remarked, add, add_at};
 use crate::ways::{count, is_flagged, reached};
 use certificate::Bound;
@@ -65,17 +65,10 @@ impl<'a> Bounded<'a> {
     }
 
     /// Whether a process may be at a point in the mode or, where the bounds don't tell what comes behind it, enter it there.
-    fn may_enter_at(&self, is_untold: bool, point: usize) -> bool
+    pub(crate) fn may_enter_at(&self, is_untold: bool, point: usize) -> bool
         ensures { result ≡ may_enter_at (code_of self.now.code.now) (bounds_of self.now.bounds.items) is_untold point }
     {
         self.is_on_at(point) || (is_untold && self.enters_at(point))
-    }
-
-    /// Whether a process may be in the mode somewhere or enter it.
-    fn may_enter(&self, is_untold: bool) -> bool
-        ensures { result ≡ list_any (may_enter_at (code_of self.now.code.now) (bounds_of self.now.bounds.items) is_untold) (points (code_of self.now.code.now)) }
-    {
-        (0..count(self.code)).any(|point| self.may_enter_at(is_untold, point))
     }
 
     /// Whether no process of the program enters the mode, though some start outside it.
@@ -83,16 +76,8 @@ impl<'a> Bounded<'a> {
         ensures { result ≡ never_enters (starts_of starts.now) program (code_of self.now.code.now) (bounds_of self.now.bounds.items)
             (not has_cert || self.now.untrusted) }
     {
-        any_starts_outside(program, starts) && !self.may_enter(!has_cert || self.untrusted)
-    }
-
-    /// Whether each point has a bound.
-    fn bounded_points(&self, alloc: Global) -> Result<Vec<bool>, AllocError>
-        ensures { IfOk result (λ found. found.items ≡ map (has_bound (bounds_of self.now.bounds.items)) (points (code_of self.now.code.now))) }
-    {
-        (0..count(self.code))
-            .map(|point| self.bound_here(point).is_some())
-            .collect(alloc)
+        let is_untold = !has_cert || self.untrusted;
+        any_starts_outside(program, starts) && !self.any_point(PointTest::MayEnter { is_untold })
     }
 
     /// Whether something arrives at each point: by its bound, or, where there is no certificate, by the text.
@@ -100,7 +85,7 @@ impl<'a> Bounded<'a> {
         ensures { IfOk result (λ found. found.items ≡ arrived (code_of self.now.code.now) (bounds_of self.now.bounds.items) has_cert) }
     {
         if has_cert {
-            self.bounded_points(alloc)
+            self.flags(alloc, PointTest::Bounded)
         } else {
             reached(alloc, self.code)
         }
@@ -111,9 +96,7 @@ impl<'a> Bounded<'a> {
         ensures { IfOk result (λ found. found.items ≡ unreached (code_of self.now.code.now) (bounds_of self.now.bounds.items) has_cert) }
     {
         let arrived = self.arrives(alloc, has_cert)?;
-        (0..count(self.code))
-            .filter(|point| !is_flagged(&arrived, *point))
-            .collect(alloc)
+        self.points_where(alloc, PointTest::Unflagged(&arrived))
     }
 
     /// Remarks where a process may be in the mode or outside it. A marked program is bounded outside the mode alone.
@@ -127,8 +110,8 @@ impl<'a> Bounded<'a> {
             let from = ways.skipping;
             add(list, Remark::Unsettled { from }, ways.unsettled)
         } else {
-            let from = self.skipping(alloc)?;
-            let points = self.unsettled(alloc)?;
+            let from = self.points_where(alloc, PointTest::Skipping)?;
+            let points = self.points_where(alloc, PointTest::Unsettled)?;
             add(list, Remark::Unsettled { from }, points)
         }
     }
@@ -143,7 +126,7 @@ impl<'a> Bounded<'a> {
     ) -> Result<(), AllocError>
         ensures { OnOk result (AddsRemarks list.old.items list.new.items (on_number (code_of self.now.code.now) (bounds_of self.now.bounds.items) number)) }
     {
-        let strays = self.strays(alloc, number)?;
+        let strays = self.points_where(alloc, PointTest::Stray(number))?;
         add(list, Remark::Stray { number }, strays)?;
         let idle = self.idle(alloc, number)?;
         self.add_limits(alloc, list, number, &idle)?;

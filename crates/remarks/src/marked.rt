@@ -1,13 +1,13 @@
 //! A marked program, whose points are bounded outside the mode alone, and where a way of it skips the entering.
 
-ghost use Rattle.std.specs.Prelude.{◌≡◌, IfOk, filter};
+ghost use Rattle.std.specs.Prelude.{◌≡◌, IfOk};
 ghost use Rattle.instruction_set.specs.Views.{code_of};
 ghost use Rattle.remarks.specs.Marked.{enters_and_leads, goes_on_mixed, is_entered_at, is_mixed_at, is_outside_at, is_skipping_marked};
 ghost use Rattle.remarks.specs.Marked.{mixed_points, skipping_marked, unsettled_marked};
 ghost use Rattle.remarks.specs.RemarkViews.{bounds_of};
 ghost use Rattle.remarks.specs.Ways.{points};
 
-use crate::bounded::Bounded;
+use crate::bounded::{Bounded, PointTest};
 use crate::looks::may_be_off;
 use crate::ways::{count, from_which, is_flagged, leads_to_flagged, only};
 use std::alloc::{AllocError, Global};
@@ -73,23 +73,14 @@ impl<'a> Bounded<'a> {
     }
 
     /// Whether a process that is there in the mode or outside it goes on.
-    fn goes_on_mixed(&self, mixed: &[bool], point: usize) -> bool
+    pub(crate) fn goes_on_mixed(&self, mixed: &[bool], point: usize) -> bool
         ensures { result ≡ goes_on_mixed (code_of self.now.code.now) mixed.now point }
     {
         is_flagged(mixed, point) && !self.is_halt_at(point)
     }
 
-    /// The points that go on, at which a process may be in the mode or outside it, by the flags of those at which it may.
-    fn going_on(&self, alloc: Global, mixed: &[bool]) -> Result<Vec<usize>, AllocError>
-        ensures { IfOk result (λ found. found.items ≡ filter (goes_on_mixed (code_of self.now.code.now) mixed.now) (points (code_of self.now.code.now))) }
-    {
-        (0..count(self.code))
-            .filter(|point| self.goes_on_mixed(mixed, *point))
-            .collect(alloc)
-    }
-
     /// Whether a process comes from there to a point where it may be in the mode or not, without entering it.
-    fn is_skipping_marked(&self, mixed: &[bool], point: usize) -> bool
+    pub(crate) fn is_skipping_marked(&self, mixed: &[bool], point: usize) -> bool
         ensures { result ≡ is_skipping_marked (code_of self.now.code.now) (bounds_of self.now.bounds.items) mixed.now point }
     {
         self.is_outside_at(point)
@@ -98,24 +89,14 @@ impl<'a> Bounded<'a> {
             && leads_to_flagged(self.code, mixed, point)
     }
 
-    /// The points from which a process comes to one of those, without entering the mode.
-    fn skipping_to(&self, alloc: Global, mixed: &[bool]) -> Result<Vec<usize>, AllocError>
-        ensures { IfOk result (λ found. found.items
-            ≡ filter (is_skipping_marked (code_of self.now.code.now) (bounds_of self.now.bounds.items) mixed.now) (points (code_of self.now.code.now))) }
-    {
-        (0..count(self.code))
-            .filter(|point| self.is_skipping_marked(mixed, *point))
-            .collect(alloc)
-    }
-
     /// Where a process of a marked program may be in the mode or outside it.
     pub(crate) fn mixed_ways(&self, alloc: Global) -> Result<MixedWays, AllocError>
         ensures goes_on { IfOk result (λ ways. ways.unsettled.items ≡ unsettled_marked (code_of self.now.code.now) (bounds_of self.now.bounds.items)) }
         ensures skips { IfOk result (λ ways. ways.skipping.items ≡ skipping_marked (code_of self.now.code.now) (bounds_of self.now.bounds.items)) }
     {
         let mixed = self.mixed_points(alloc)?;
-        let unsettled = self.going_on(alloc, &mixed)?;
-        let skipping = self.skipping_to(alloc, &mixed)?;
+        let unsettled = self.points_where(alloc, PointTest::UnsettledMarked(&mixed))?;
+        let skipping = self.points_where(alloc, PointTest::SkippingMarked(&mixed))?;
         Ok(MixedWays {
             unsettled,
             skipping,

@@ -6,7 +6,7 @@ ghost use Rattle.certificate.specs.Views.{authorities_of, bound_of, ceiling_of, 
 ghost use Rattle.instruction_set.specs.Views.{code_of, instruction_of, syscall_of};
 ghost use Rattle.remarks.specs.RemarkViews.{bounds_of, difference_of, warned_of};
 ghost use Rattle.remarks.specs.Remarks.{is_there};
-ghost use Rattle.remarks.specs.Warnings.{calling_points, calls_ahead, differences, differs, differs_at, goes_on_closing, goes_on_entering, has_more, is_call};
+ghost use Rattle.remarks.specs.Warnings.{calls_ahead, differences, differs, differs_at, goes_on_closing, goes_on_entering, has_more, is_call};
 ghost use Rattle.remarks.specs.Warnings.{looks_beyond, prying, starts_with_more, takes_more_at, warned_at, warned_in, widest};
 ghost use Rattle.remarks.specs.Ways.{points};
 ghost use Rattle.rights.specs.Limits.{most_descriptors};
@@ -14,7 +14,7 @@ ghost use Rattle.rules.specs.Authority.{authority_in};
 ghost use Rattle.task.specs.Views.{first_descriptor_of, grants_of, program_of};
 ghost use Rattle.texts.specs.Views.{name_of};
 
-use crate::bounded::Bounded;
+use crate::bounded::{Bounded, PointTest};
 use crate::looks::{
     goes_out, limits_nothing, looks_unlisted, makes_beyond, passes_by, takes_beyond,
 };
@@ -131,25 +131,8 @@ impl<'a> Bounded<'a> {
         }
     }
 
-    /// Whether each instruction is a call.
-    fn calls_here(&self, alloc: Global) -> Result<Vec<bool>, AllocError>
-        ensures { IfOk result (λ found. found.items ≡ calling_points (code_of self.now.code.now)) }
-    {
-        (0..count(self.code))
-            .map(|point| self.calls_at(point))
-            .collect(alloc)
-    }
-
-    /// The points from which a call comes.
-    fn calls_ahead(&self, alloc: Global) -> Result<Vec<bool>, AllocError>
-        ensures { IfOk result (λ found. found.items ≡ calls_ahead (code_of self.now.code.now)) }
-    {
-        let here = self.calls_here(alloc)?;
-        from_which(alloc, self.code, here)
-    }
-
     /// Whether the instruction at a point is a call.
-    fn calls_at(&self, point: usize) -> bool
+    pub(crate) fn calls_at(&self, point: usize) -> bool
         ensures { result ≡ is_there (code_of self.now.code.now) is_call point }
     {
         match self.code.get(point) {
@@ -258,7 +241,7 @@ impl<'a> Bounded<'a> {
         ensures { IfOk result (λ found. map warned_of found.items
             ≡ map (warned_at task.now self.now.name.now (code_of self.now.code.now) (bounds_of self.now.bounds.items) self.now.untrusted) (points (code_of self.now.code.now))) }
     {
-        let calls = self.calls_ahead(alloc)?;
+        let calls = self.ahead(alloc, PointTest::Calls)?;
         let mut list = Vec::new(alloc);
         for point in 0..count(self.code) {
             list.push(self.warnings_at(alloc, task, &calls, point)?)?;

@@ -2,7 +2,7 @@ use Rattle.std.proofs.Common.{option_map, subst}
 use Rattle.std.specs.Prelude.{OnOk, Option}
 use Rattle.certificate.specs.Bounds.{Bound}
 use Rattle.instruction_set.specs.Programs.{Instruction}
-use Rattle.instruction_set.specs.Views.{code_of, instruction_of}
+use Rattle.instruction_set.specs.Views.{instruction_of}
 use Rattle.remarks.specs.Listed.{closed_there, never_open_at}
 use Rattle.remarks.specs.RemarkViews.{AddsRemarks, bounds_of}
 use Rattle.remarks.specs.Remarks.{bound_here}
