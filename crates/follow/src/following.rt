@@ -65,16 +65,6 @@ pub enum Followed {
     Parts(Parted),
 }
 
-/// What going on to a run comes to.
-#[derive(Clone, Copy)]
-enum Arrival {
-    /// The run shows all.
-    AtEnd,
-    /// Such a run was met before.
-    Met,
-    New,
-}
-
 /// The search on its way.
 #[derive(Drop)]
 struct Trail<'a> {
@@ -88,8 +78,6 @@ struct Trail<'a> {
     fewest: usize,
     first_left: Option<&'a Entry>,
     points: Vec<AtPoint>,
-    /// The processes of a run that shows all, once one is found.
-    found: Vec<ProcessPair>,
 }
 
 /// Has the first processes of the task, but for those of a program `world`, stand for those of the record, in this order.
@@ -136,76 +124,7 @@ fn outcome_in(lead: &mut Lead<'_>, process: u8) -> LineResult {
     outcome
 }
 
-/// Where a process stands, as one that does nothing more.
-fn point_of(lead: &Lead<'_>, process: u8) -> Option<AtPoint> {
-    let Some(state) = lead.process(process) else {
-        return None;
-    };
-    Some(AtPoint {
-        process,
-        program: state.program,
-        point: state.point,
-        in_mode: state.mode(),
-        outcome: LineResult::Ended,
-    })
-}
-
-impl<'a> Leads<'a> {
-    /// The point at which a process of the last run stands, and what its instruction comes to, if it was made.
-    fn point_in_last(&mut self, process: u8) -> Option<AtPoint> {
-        let Some(lead) = self.runs.last_mut() else {
-            return None;
-        };
-        let Some(mut point) = point_of(lead, process) else {
-            return None;
-        };
-        point.outcome = outcome_in(lead, process);
-        self.is_short = self.is_short || lead.is_short;
-        Some(point)
-    }
-}
-
 impl<'a> Trail<'a> {
-    /// Before the first state.
-    fn new(alloc: Global, entries: &[Entry]) -> Trail<'a> {
-        Trail {
-            leads: Leads::new(alloc),
-            way: Vec::new(alloc),
-            next: Leads::new(alloc),
-            met: IndexSet::new(alloc),
-            fewest: entries.len(),
-            first_left: None,
-            points: Vec::new(alloc),
-            found: Vec::new(alloc),
-        }
-    }
-
-    /// Goes on with a run up to where each process makes its next call.
-    fn settle(&mut self, search: &Search<'a>, lead: &mut Lead<'a>) {
-        lead.settle(search);
-        self.way.truncate(lead.base);
-        let is_refused = self.way.extend_from_slice(&lead.moves).is_err();
-        lead.moves.clear();
-        if is_refused || lead.is_short {
-            self.leads.is_short = true;
-        }
-    }
-
-    /// Whether a run shows all, or such a run was met.
-    fn arrive(&mut self, lead: &Lead<'a>) -> Arrival {
-        if lead.standing.is_at_end() {
-            return Arrival::AtEnd;
-        }
-        match self.met.insert_full(digest_of(lead)) {
-            Ok((_, true)) => Arrival::New,
-            Ok((_, false)) => Arrival::Met,
-            Err(_) => {
-                self.leads.is_short = true;
-                Arrival::Met
-            }
-        }
-    }
-
     /// Notes how far a run has come, if none has come further.
     fn reach(&mut self, lead: &Lead<'a>) {
         let left = &lead.standing.left;
@@ -216,124 +135,99 @@ impl<'a> Trail<'a> {
         }
     }
 
-    /// Which process of a run shows the first entry that is left, if the run has come as far as any.
-    fn awaited(&self, lead: &Lead<'a>) -> Option<u8> {
-        let left = &lead.standing.left;
-        if left.len() > self.fewest || self.points.len() >= MOST_POINTS {
-            return None;
-        }
-        match left.first() {
-            Some(entry) => stand_in(&lead.pairs, entry.process),
-            None => None,
-        }
-    }
-
-    /// Notes a point, if it isn't there.
-    fn add_point(&mut self, point: AtPoint) {
-        if !self.points.contains(&point) && self.points.push(point).is_err() {
+    /// Notes the point at which a process of a run stands, and what its instruction comes to.
+    fn note(&mut self, search: &Search<'a>, lead: &Lead<'a>, process: u8) {
+        let Some(state) = lead.process(process) else {
+            return;
+        };
+        let Ok(mut run) = lead.copy(search.alloc) else {
+            self.leads.is_short = true;
+            return;
+        };
+        let point = AtPoint {
+            process,
+            program: state.program,
+            point: state.point,
+            in_mode: state.mode(),
+            outcome: outcome_in(&mut run, process),
+        };
+        let is_refused = !self.points.contains(&point) && self.points.push(point).is_err();
+        if is_refused || run.is_short {
             self.leads.is_short = true;
         }
     }
 
-    /// Notes the point at which a process of a run stands.
-    fn note(&mut self, search: &Search<'a>, lead: &Lead<'a>, process: u8) {
-        if self.next.add_branch(search, lead) {
-            if let Some(point) = self.next.point_in_last(process) {
-                self.add_point(point);
+    /// Keeps the runs that come next, which begin where the way is now, the first of them to be gone on with first: that one always, and
+    /// others only while there are few.
+    fn keep(&mut self) {
+        for _ in 0..self.next.runs.len() {
+            if self.next.runs.len() > 1 && self.leads.runs.len() >= MOST_KEPT {
+                self.next.drop_last();
+            } else if let Some(mut lead) = self.next.runs.pop() {
+                lead.base = self.way.len();
+                self.leads.push(lead);
             }
-            self.next.drop_last();
         }
     }
 
-    /// Adds the runs that come next behind a run, or notes where it stands.
+    /// Keeps the runs that come next behind a run, or notes where it stands, if none has come further.
     fn branch(&mut self, search: &Search<'a>, lead: &Lead<'a>) {
         self.reach(lead);
         add_branches(search, lead, &mut self.next);
+        self.leads.is_short = self.leads.is_short || self.next.is_short;
         if !self.next.runs.is_empty() {
+            self.keep();
             return;
         }
-        if let Some(process) = self.awaited(lead) {
-            self.note(search, lead, process);
-        }
-    }
-
-    /// Takes the last of the runs that come next, which begins where the way is now.
-    fn take_next(&mut self) {
-        if let Some(lead) = self.next.runs.pop() {
-            self.leads.push(lead);
-        }
-        if let Some(lead) = self.leads.runs.last_mut() {
-            lead.base = self.way.len();
-        }
-    }
-
-    /// Keeps the runs that come next, the first of them to be gone on with first: that one always, and others only while there are few.
-    fn keep(&mut self) {
-        for _ in 0..self.next.runs.len() {
-            if self.next.runs.len() == 1 || self.leads.runs.len() < MOST_KEPT {
-                self.take_next();
-            } else {
-                self.next.drop_last();
+        let left = &lead.standing.left;
+        if left.len() <= self.fewest && self.points.len() < MOST_POINTS {
+            if let Some(entry) = left.first() {
+                if let Some(process) = stand_in(&lead.pairs, entry.process) {
+                    self.note(search, lead, process);
+                }
             }
         }
     }
 
-    /// Goes on with a run. Whether it shows all is told.
+    /// Goes on with a run, up to where each process makes its next call. Whether it shows all is told.
     fn go_on(&mut self, search: &Search<'a>, lead: &mut Lead<'a>) -> bool {
-        self.settle(search, lead);
-        match self.arrive(lead) {
-            Arrival::AtEnd => {
-                mem::swap(&mut self.found, &mut lead.pairs);
-                return true;
-            }
-            Arrival::Met => {}
-            Arrival::New => self.branch(search, lead),
+        lead.settle(search);
+        self.way.truncate(lead.base);
+        let is_refused = self.way.extend_from_slice(&lead.moves).is_err();
+        lead.moves.clear();
+        if is_refused || lead.is_short {
+            self.leads.is_short = true;
         }
-        self.keep();
+        if lead.standing.is_at_end() {
+            return true;
+        }
+        match self.met.insert_full(digest_of(lead)) {
+            Ok((_, true)) => self.branch(search, lead),
+            Ok(_) => {}
+            Err(_) => self.leads.is_short = true,
+        }
         false
     }
 
-    /// Whether memory was refused for something.
-    fn is_short(&self) -> bool {
-        self.leads.is_short || self.next.is_short
-    }
-
-    /// Takes the last run and goes on with it. Whether it shows all is told.
-    fn go_on_with_last(&mut self, search: &Search<'a>) -> bool {
-        match self.leads.runs.pop() {
-            Some(mut lead) => self.go_on(search, &mut lead),
-            None => false,
-        }
-    }
-
-    /// Searches over at most so many states. Whether a run is found that shows all is told.
-    fn search(&mut self, search: &Search<'a>, bound: usize) -> bool {
+    /// Searches over at most so many states: what shows that a run shows all, if one is found.
+    fn search(&mut self, search: &Search<'a>, bound: usize) -> Result<Option<Witness>, Memory> {
         for _ in 0..bound {
-            if self.leads.runs.is_empty() || self.is_short() {
+            if self.leads.is_short {
                 break;
             }
-            if self.go_on_with_last(search) {
-                return true;
+            let Some(mut lead) = self.leads.runs.pop() else {
+                break;
+            };
+            if self.go_on(search, &mut lead) && !self.leads.is_short {
+                let pairs = mem::replace(&mut lead.pairs, Vec::new(search.alloc));
+                let moves = mem::replace(&mut self.way, Vec::new(search.alloc));
+                return Ok(Some(Witness { pairs, moves }));
             }
         }
-        false
-    }
-
-    /// How far it has come that found nothing.
-    fn take_parted(&mut self, alloc: Global, entries: &[Entry]) -> Parted {
-        Parted {
-            entry: place_of(entries, self.first_left),
-            points: mem::replace(&mut self.points, Vec::new(alloc)),
-            states: self.met.len(),
-            is_bounded: !self.leads.runs.is_empty(),
+        if self.leads.is_short {
+            return Err(Memory);
         }
-    }
-
-    /// What shows that the run shows all that was found.
-    fn take_witness(&mut self, alloc: Global) -> Witness {
-        let pairs = mem::replace(&mut self.found, Vec::new(alloc));
-        let moves = mem::replace(&mut self.way, Vec::new(alloc));
-        Witness { pairs, moves }
+        Ok(None)
     }
 }
 
@@ -372,27 +266,6 @@ fn first_lead<'a>(search: &Search<'a>, entries: &'a [Entry]) -> Result<Option<Le
     }
 }
 
-/// Searches from the beginning, over at most so many states: the run that shows all, if one is found.
-fn sought<'a>(
-    trail: &mut Trail<'a>,
-    search: &Search<'a>,
-    entries: &'a [Entry],
-    bound: usize,
-) -> Result<Option<Witness>, Memory> {
-    if let Some(lead) = first_lead(search, entries)? {
-        trail.leads.push(lead);
-    }
-    let is_found = trail.search(search, bound);
-    if trail.is_short() {
-        return Err(Memory);
-    }
-    if is_found {
-        Ok(Some(trail.take_witness(search.alloc)))
-    } else {
-        Ok(None)
-    }
-}
-
 /// What a search from the beginning comes to: what is found is checked by `shows`.
 fn checked<'a>(
     trail: &mut Trail<'a>,
@@ -402,20 +275,28 @@ fn checked<'a>(
 ) -> Result<Followed, Memory>
     ensures { IfOk result (IsFollowed search.now.task.now (placings_of search.now.placings.now) (calls_seen entries.now)) }
 {
-    let Some(witness) = sought(trail, search, entries, bound)? else {
-        return Ok(Followed::Parts(trail.take_parted(search.alloc, entries)));
-    };
-    match shows(
-        search.alloc,
-        search.task,
-        search.placings,
-        entries,
-        &witness,
-    ) {
-        Err(_) => Err(Memory),
-        Ok(true) => Ok(Followed::Follows(witness)),
-        Ok(false) => Ok(Followed::Parts(trail.take_parted(search.alloc, entries))),
+    if let Some(lead) = first_lead(search, entries)? {
+        trail.leads.push(lead);
     }
+    if let Some(witness) = trail.search(search, bound)? {
+        match shows(
+            search.alloc,
+            search.task,
+            search.placings,
+            entries,
+            &witness,
+        ) {
+            Err(_) => return Err(Memory),
+            Ok(true) => return Ok(Followed::Follows(witness)),
+            Ok(false) => {}
+        }
+    }
+    Ok(Followed::Parts(Parted {
+        entry: place_of(entries, trail.first_left),
+        points: mem::replace(&mut trail.points, Vec::new(search.alloc)),
+        states: trail.met.len(),
+        is_bounded: !trail.leads.runs.is_empty(),
+    }))
 }
 
 /// Searches a run of the task that shows the calls of a record, over at most so many states. The processes of the record that none of its
@@ -436,6 +317,14 @@ pub fn follow<'a>(
         placings,
         limited: has_limiting(entries),
     };
-    let mut trail = Trail::new(alloc, entries);
+    let mut trail = Trail {
+        leads: Leads::new(alloc),
+        way: Vec::new(alloc),
+        next: Leads::new(alloc),
+        met: IndexSet::new(alloc),
+        fewest: entries.len(),
+        first_left: None,
+        points: Vec::new(alloc),
+    };
     checked(&mut trail, &search, entries, bound)
 }

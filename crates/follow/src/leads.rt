@@ -2,7 +2,6 @@
 
 use crate::checking::watched_step;
 use crate::numbers::{ProcessPair, model_of};
-use crate::outcomes::Seen;
 use crate::places::Placing;
 use crate::standing::{Setting, Standing, after_skip, after_step};
 use crate::witnesses::Move;
@@ -15,7 +14,6 @@ use std::alloc::{AllocError, Global};
 use std::marker::Model;
 use syscalls::Event;
 use task::Task;
-use texts::Page;
 
 /// How many steps a call takes at most: one for each name of its paths, and of the links that they lead through.
 const MOST_LOOKUPS: usize = 32_768;
@@ -94,40 +92,17 @@ pub(crate) fn code_of(task: &Task, program: u8) -> &[Instruction] {
 /// What is tried in a run.
 #[derive(Clone, Copy)]
 pub(crate) enum Trial {
-    /// A step, which may show the entry of a place.
+    /// A step, or a call up to where it has come back, that shows the entry of a place, if it shows one. In the record it has made this
+    /// process, if it has made one.
     Step {
         event: Event,
+        child: Option<u32>,
         shows: Option<usize>,
     },
-    /// A call, up to where it has come back, that shows the entry of a place, and in the record has made this process, if it has made one.
-    Call {
-        event: Event,
-        child: Option<u32>,
-        at: usize,
-    },
-    /// A call of this process that shows nothing.
-    Silent(u8),
     /// That the entry of a place is skipped.
     Skip(usize),
     /// A step of the world from which something comes, and what it does up to its next call.
     World(Event),
-}
-
-/// Adds the run in which something is tried, if it may be. Whether it may is told.
-pub(crate) fn add_tried<'a>(
-    search: &Search<'a>,
-    lead: &Lead<'a>,
-    trial: Trial,
-    found: &mut Leads<'a>,
-) -> bool {
-    if !found.add_branch(search, lead) {
-        return false;
-    }
-    let may = found.try_last(search, trial);
-    if !may {
-        found.drop_last();
-    }
-    may
 }
 
 impl<'a> Leads<'a> {
@@ -145,35 +120,10 @@ impl<'a> Leads<'a> {
         Ok(())
     }
 
-    /// Adds a run, if there is memory for it. Whether there is is told.
-    pub(crate) fn push(&mut self, lead: Lead<'a>) -> bool {
+    /// Adds a run, if there is memory for it.
+    pub(crate) fn push(&mut self, lead: Lead<'a>) {
         if self.try_push(lead).is_err() {
             self.is_short = true;
-            return false;
-        }
-        true
-    }
-
-    /// Adds a run that goes on from where another one is. Whether there was memory for it is told.
-    pub(crate) fn add_branch(&mut self, search: &Search<'a>, lead: &Lead<'a>) -> bool {
-        match lead.copy(search.alloc) {
-            Ok(copy) => self.push(copy),
-            Err(_) => {
-                self.is_short = true;
-                false
-            }
-        }
-    }
-
-    /// Tries something in the last run. Whether it may be is told.
-    fn try_last(&mut self, search: &Search<'a>, trial: Trial) -> bool {
-        match self.runs.last_mut() {
-            Some(lead) => {
-                let may = lead.tries(search, trial);
-                self.is_short = self.is_short || lead.is_short;
-                may
-            }
-            None => false,
         }
     }
 
@@ -182,17 +132,28 @@ impl<'a> Leads<'a> {
         self.runs.truncate(self.runs.len().saturating_sub(1));
     }
 
-    /// Notes whether memory was refused for what should stand on a page.
-    pub(crate) fn note(&mut self, page: &Page) {
-        if page.finish().is_err() {
-            self.is_short = true;
+    /// Adds the run in which something is tried, if it may be. Whether it may is told.
+    pub(crate) fn add_tried(&mut self, search: &Search<'a>, lead: &Lead<'a>, trial: Trial) -> bool {
+        match lead.copy(search.alloc) {
+            Ok(mut run) => {
+                let may = run.tries(search, trial);
+                self.is_short = self.is_short || run.is_short;
+                if may {
+                    self.push(run);
+                }
+                may
+            }
+            Err(_) => {
+                self.is_short = true;
+                false
+            }
         }
     }
 }
 
 impl<'a> Lead<'a> {
     /// The same once more.
-    fn copy(&self, alloc: Global) -> Result<Lead<'a>, Memory> {
+    pub(crate) fn copy(&self, alloc: Global) -> Result<Lead<'a>, Memory> {
         let pairs = Vec::from_slice(alloc, &self.pairs)?;
         let moves = Vec::from_slice(alloc, &self.moves)?;
         let standing = self.standing.copy(alloc)?;
@@ -223,17 +184,6 @@ impl<'a> Lead<'a> {
         }
     }
 
-    /// What is seen of one step, if it is seen.
-    fn seen_step(&mut self, search: &Search<'a>, event: Event) -> Option<Seen<'a>> {
-        match watched_step(search.task, &mut self.machine, event) {
-            Ok(watched) => watched.seen,
-            Err(_) => {
-                self.is_short = true;
-                None
-            }
-        }
-    }
-
     /// Notes a move that may be made, if there was memory to tell. Whether it may be is told.
     fn note(&mut self, may: Result<bool, Memory>, step: Move) -> bool {
         match may {
@@ -246,27 +196,6 @@ impl<'a> Lead<'a> {
         }
     }
 
-    /// Notes a step that was seen, which may show the entry of a place. Whether it may be is told.
-    fn may_step(
-        &mut self,
-        search: &Search<'a>,
-        event: Event,
-        seen: &Seen<'_>,
-        shows: Option<usize>,
-    ) -> bool {
-        let setting = search.setting(&self.pairs);
-        let process = usize::from(event.process);
-        let may = after_step(
-            search.alloc,
-            &setting,
-            &mut self.standing,
-            process,
-            Some(seen),
-            shows,
-        );
-        self.note(may, Move::Step { event, shows })
-    }
-
     /// One step. It is to show the entry of a place, if it is the last one of its call. What it came to is told, if it may be.
     fn step(
         &mut self,
@@ -274,12 +203,26 @@ impl<'a> Lead<'a> {
         event: Event,
         shows: Option<usize>,
     ) -> Option<LineResult> {
-        let seen = self.seen_step(search, event)?;
+        let Ok(watched) = watched_step(search.task, &mut self.machine, event) else {
+            self.is_short = true;
+            return None;
+        };
+        let Some(seen) = watched.seen else {
+            return None;
+        };
         let shows = match seen.outcome {
             LineResult::Walking | LineResult::Waiting => None,
             _ => shows,
         };
-        if self.may_step(search, event, &seen, shows) {
+        let may = after_step(
+            search.alloc,
+            &search.setting(&self.pairs),
+            &mut self.standing,
+            usize::from(event.process),
+            Some(&seen),
+            shows,
+        );
+        if self.note(may, Move::Step { event, shows }) {
             Some(seen.outcome)
         } else {
             None
@@ -291,32 +234,8 @@ impl<'a> Lead<'a> {
         for _ in 0..MOST_LOOKUPS {
             match self.step(search, event, shows) {
                 Some(LineResult::Walking) => {}
-                None | Some(LineResult::Waiting) => return false,
-                Some(_) => return true,
-            }
-        }
-        false
-    }
-
-    /// Skips the entry of a place, if it may be.
-    fn skip(&mut self, search: &Search<'a>, at: usize) -> bool {
-        let setting = search.setting(&self.pairs);
-        let processes = self.machine.processes();
-        let may = after_skip(search.alloc, &setting, &mut self.standing, processes, at);
-        self.note(may, Move::Skip { entry: at })
-    }
-
-    /// Takes a step of the world, to where its call has come back, and what the process does up to its next call. Whether something comes
-    /// of it is told.
-    fn move_world(&mut self, search: &Search<'a>, event: Event) -> bool {
-        for _ in 0..MOST_LOOKUPS {
-            match self.step(search, event, None) {
-                Some(LineResult::Walking) => {}
                 None | Some(LineResult::Waiting | LineResult::Ended) => return false,
-                Some(_) => {
-                    self.run_plain(search, event.process);
-                    return true;
-                }
+                Some(_) => return true,
             }
         }
         false
@@ -333,45 +252,44 @@ impl<'a> Lead<'a> {
         }
     }
 
-    /// Runs a process on until its call has come back, which is to show the entry of a place. Whether it does is told.
-    fn show_call(
-        &mut self,
-        search: &Search<'a>,
-        event: Event,
-        child: Option<u32>,
-        at: usize,
-    ) -> bool {
-        if let Some(child) = child {
-            self.pair_next(child);
-        }
-        self.run_call(search, event, Some(at))
-    }
-
     /// Tries something. Whether it may be is told.
     fn tries(&mut self, search: &Search<'a>, trial: Trial) -> bool {
         match trial {
-            Trial::Step { event, shows } => self.step(search, event, shows).is_some(),
-            Trial::Call { event, child, at } => self.show_call(search, event, child, at),
-            Trial::Silent(process) => self.run_call(search, event_of(process, 0), None),
-            Trial::Skip(at) => self.skip(search, at),
-            Trial::World(event) => self.move_world(search, event),
+            Trial::Step {
+                event,
+                child,
+                shows,
+            } => {
+                if let Some(child) = child {
+                    self.pair_next(child);
+                }
+                self.run_call(search, event, shows)
+            }
+            Trial::Skip(entry) => {
+                let setting = search.setting(&self.pairs);
+                let processes = self.machine.processes();
+                let may = after_skip(search.alloc, &setting, &mut self.standing, processes, entry);
+                self.note(may, Move::Skip { entry })
+            }
+            Trial::World(event) => {
+                let moves = self.run_call(search, event, None);
+                if moves {
+                    self.run_plain(search, event.process);
+                }
+                moves
+            }
         }
     }
 
-    /// Whether a process stands at what it can do alone: no call, no byte and no end.
-    fn is_plain(&self, search: &Search<'a>, process: u8) -> bool {
-        match self.instruction(search.task, process) {
-            None | Some(Instruction::In { .. } | Instruction::Halt | Instruction::Invoke { .. }) =>
-                { false }
-            Some(_) => true,
-        }
-    }
-
-    /// Runs a process on up to its next call, byte or end.
+    /// Runs a process on as far as it can alone: up to its next call, byte or end.
     pub(crate) fn run_plain(&mut self, search: &Search<'a>, process: u8) {
         for _ in 0..MOST_PLAIN {
-            if !self.is_plain(search, process) {
-                break;
+            match self.instruction(search.task, process) {
+                None
+                | Some(Instruction::In { .. } | Instruction::Halt | Instruction::Invoke { .. }) => {
+                    break;
+                }
+                Some(_) => {}
             }
             self.step(search, event_of(process, 0), None);
         }

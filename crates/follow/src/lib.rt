@@ -18,7 +18,6 @@ mod prospects;
 mod standing;
 mod transfers;
 pub mod witnesses;
-mod world_ends;
 mod worlds;
 
 pub use checking::shows;

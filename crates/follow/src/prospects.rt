@@ -2,23 +2,13 @@
 
 use crate::branching::may_show;
 use crate::leads::{Lead, Leads, Search};
-use crate::numbers::ProcessPair;
+use crate::numbers::is_process;
 use crate::outcomes::is_of_mode;
 use crate::standing::may_skip;
 use crate::transfers::{is_repeat, transfer_in};
 use instruction_set::{Instruction, Syscall};
 use records::{Entry, Event, MadeCall};
 use simulator::LineResult;
-
-/// The first entry of a process of the record that is left.
-fn next_of<'c>(left: &[&'c Entry], process: u32) -> Option<&'c Entry> {
-    for entry in left {
-        if entry.process == process {
-            return Some(*entry);
-        }
-    }
-    None
-}
 
 /// Whether a process may make the call at which it stands without showing one.
 fn may_pass(search: &Search<'_>, lead: &Lead<'_>, process: u8, call: &Syscall) -> bool {
@@ -69,25 +59,14 @@ fn prospect_before(search: &Search<'_>, lead: &Lead<'_>, process: u8, entry: &En
     }
 }
 
-/// Which process of the record one of the task stands for.
-fn stands_for(pairs: &[ProcessPair], process: u8) -> Option<u32> {
-    for pair in pairs {
-        if pair.model == process {
-            return Some(pair.real);
-        }
-    }
-    None
-}
-
 /// What may come of the instruction at which a process stands.
 fn prospect_of(search: &Search<'_>, lead: &Lead<'_>, process: u8) -> Prospect {
-    let Some(real) = stands_for(&lead.pairs, process) else {
-        return Prospect::Shows;
-    };
-    match next_of(&lead.standing.left, real) {
-        Some(entry) => prospect_before(search, lead, process, entry),
-        None => Prospect::Shows,
+    for entry in &lead.standing.left {
+        if is_process(&lead.pairs, entry.process, usize::from(process)) {
+            return prospect_before(search, lead, process, entry);
+        }
     }
+    Prospect::Shows
 }
 
 impl<'a> Leads<'a> {
@@ -112,12 +91,11 @@ impl<'a> Leads<'a> {
         true
     }
 
-    /// Takes the run of a place out, if there is one, and puts it behind all others, if it is kept.
-    fn take_out(&mut self, at: usize, is_kept: bool) {
-        if at < self.runs.len() {
-            let run = self.runs.remove(at);
-            if is_kept {
-                self.push(run);
+    /// Puts the run of a place behind all others.
+    fn put_last(&mut self, at: usize) {
+        for place in at..self.runs.len() {
+            if place + 1 < self.runs.len() {
+                self.runs.swap(place, place + 1);
             }
         }
     }
@@ -132,8 +110,11 @@ impl<'a> Leads<'a> {
         for _ in first..self.runs.len() {
             match self.prospect_at(search, process, at) {
                 Prospect::Shows => at = at.saturating_add(1),
-                Prospect::Passes => self.take_out(at, true),
-                Prospect::Stuck => self.take_out(at, false),
+                Prospect::Passes => self.put_last(at),
+                Prospect::Stuck => {
+                    self.put_last(at);
+                    self.drop_last();
+                }
             }
         }
     }

@@ -1,13 +1,14 @@
-//! What the processes of the task do that the record doesn't have.
+//! What the processes of the task do that the record doesn't have, and for which calls that can matter.
 
-use crate::branching::inputs;
-use crate::digests::digest_of;
-use crate::leads::{Lead, Leads, Search, Trial, add_tried, event_of};
+use crate::branching::add_reading;
+use crate::digests::{digest_of, open_at};
+use crate::given::value_of;
+use crate::leads::{Lead, Leads, Search, Trial, event_of};
 use crate::numbers::is_recorded;
+use fd_table::{End, Object};
 use indexmap::IndexSet;
-use instruction_set::Instruction;
-use rights::limits::MAX_PROCESSES;
-use syscalls::Event;
+use instruction_set::{Instruction, Syscall};
+use rights::limits::{MAX_DESCRIPTORS, MAX_PROCESSES};
 
 /// How many runs are tried at most.
 const MOST_STEPS: usize = 600;
@@ -16,64 +17,82 @@ const MOST_STEPS: usize = 600;
 const MOST_FOUND: usize = 4;
 
 /// Whether a process was made, lives, and stands for none of the record.
-pub(crate) fn is_of_world(lead: &Lead<'_>, number: u8) -> bool {
+fn is_of_world(lead: &Lead<'_>, number: u8) -> bool {
     match lead.process(number) {
         None => false,
         Some(process) => process.alive && !is_recorded(&lead.pairs, usize::from(number)),
     }
 }
 
-/// Whether there is a process that the record doesn't have.
-pub(crate) fn has_world(lead: &Lead<'_>) -> bool {
-    for number in 0..MAX_PROCESSES as u8 {
-        if is_of_world(lead, number) {
-            return true;
+/// The end of a pair that a process has at a number.
+fn end_at(lead: &Lead<'_>, process: u8, number: u8) -> Option<End> {
+    match open_at(lead.machine.files(), process, number) {
+        Some((_, what)) => match what.object {
+            Object::End { end, .. } => Some(end),
+            Object::Node { .. } => None,
+        },
+        None => None,
+    }
+}
+
+/// The end through which a call of a process takes or gives a message, if it does.
+fn end_of(lead: &Lead<'_>, process: u8, call: &Syscall) -> Option<End> {
+    let channel = match call {
+        Syscall::Read { descriptor }
+        | Syscall::Recvfd { descriptor }
+        | Syscall::Write { descriptor, .. }
+        | Syscall::Sendfd { descriptor, .. } => *descriptor,
+        _ => return None,
+    };
+    let Some(state) = lead.process(process) else {
+        return None;
+    };
+    match u8::try_from(value_of(&state.registers, channel)) {
+        Ok(number) => end_at(lead, process, number),
+        Err(_) => None,
+    }
+}
+
+/// Whether a process has the other end of a pair.
+fn has_other(lead: &Lead<'_>, process: u8, end: &End) -> bool {
+    for number in 0..MAX_DESCRIPTORS as u8 {
+        if let Some(own) = end_at(lead, process, number) {
+            if own.pair == end.pair && own.side != end.side {
+                return true;
+            }
         }
     }
     false
 }
 
-/// Adds the runs in which a process of the world moves: one for each byte that is tried, if it reads one.
-fn add_moves<'a>(search: &Search<'a>, lead: &Lead<'a>, process: u8, next: &mut Leads<'a>) {
-    let Some(Instruction::In { register }) = lead.instruction(search.task, process) else {
-        add_tried(search, lead, Trial::World(event_of(process, 0)), next);
-        return;
-    };
-    let bytes = inputs(search, lead, process, *register);
-    next.note(&bytes);
-    for input in bytes.as_bytes() {
-        add_tried(search, lead, Trial::World(event_of(process, *input)), next);
-    }
-}
-
-/// Adds the runs in which the world moves once.
-fn add_moved<'a>(search: &Search<'a>, run: &Lead<'a>, next: &mut Leads<'a>) {
+/// Whether there are processes that the record doesn't have which may make the call of a process come to something else: where it goes
+/// through an end, only one that has the other end.
+pub(crate) fn may_help(lead: &Lead<'_>, process: u8, call: &Syscall) -> bool {
+    let end = end_of(lead, process, call);
     for number in 0..MAX_PROCESSES as u8 {
-        if is_of_world(run, number) {
-            add_moves(search, run, number, next);
+        if is_of_world(lead, number) {
+            match &end {
+                Some(end) if !has_other(lead, number, end) => {}
+                _ => return true,
+            }
         }
     }
+    false
 }
 
-/// What a process is to do once the world has moved.
-#[derive(Clone, Copy)]
-pub(crate) struct Awaited {
-    pub process: u8,
-    /// The process that the record's call has made, if it has made one.
-    pub child: Option<u32>,
-    /// Whether the record's call failed as one that the kernel refuses.
-    pub is_refusal: bool,
-    /// The place of the entry that it is to show.
-    pub at: usize,
-}
-
-impl Awaited {
-    /// That it does that in this event, as it is tried.
-    pub(crate) fn trial(self, event: Event) -> Trial {
-        Trial::Call {
-            event,
-            child: self.child,
-            at: self.at,
+/// Adds the runs in which a process of the world moves once: one for each byte that is tried, if it reads one.
+fn add_moved<'a>(search: &Search<'a>, run: &Lead<'a>, next: &mut Leads<'a>) {
+    for process in 0..MAX_PROCESSES as u8 {
+        if !is_of_world(run, process) {
+            continue;
+        }
+        match run.instruction(search.task, process) {
+            Some(Instruction::In { register }) => {
+                add_reading(search, run, process, *register, true, next);
+            }
+            _ => {
+                next.add_tried(search, run, Trial::World(event_of(process, 0)));
+            }
         }
     }
 }
@@ -89,76 +108,38 @@ struct Moving<'a> {
 }
 
 impl<'a> Moving<'a> {
-    /// Notes that the last run is met. Whether it wasn't before is told.
-    fn meet(&mut self) -> bool {
-        let Some(run) = self.runs.runs.last() else {
-            return false;
-        };
-        match self.met.insert_full(digest_of(run)) {
-            Ok((_, is_new)) => is_new,
-            Err(_) => {
-                self.runs.is_short = true;
-                false
-            }
-        }
-    }
-
-    /// Adds the run in which the call of a process shows the entry behind the last run, if it does.
-    fn help(&mut self, search: &Search<'a>, awaited: Awaited, found: &mut Leads<'a>) {
+    /// Adds the run in which something is tried in the last run, if it may be. If that run was met before, it is dropped.
+    fn go_to_last(&mut self, search: &Search<'a>, trial: Trial, found: &mut Leads<'a>) {
         let Some(run) = self.runs.runs.last() else {
             return;
         };
-        let trial = awaited.trial(event_of(awaited.process, 0));
-        if add_tried(search, run, trial, found) {
-            self.helped = self.helped.wrapping_add(1);
+        match self.met.insert_full(digest_of(run)) {
+            Ok((_, true)) => {
+                if found.add_tried(search, run, trial) {
+                    self.helped = self.helped.wrapping_add(1);
+                }
+            }
+            Ok(_) => self.runs.drop_last(),
+            Err(_) => self.runs.is_short = true,
         }
     }
 
-    /// Sees whether the last run helps, unless it was met before, and is dropped.
-    fn go_to_last(&mut self, search: &Search<'a>, awaited: Awaited, found: &mut Leads<'a>) {
-        if self.meet() {
-            self.help(search, awaited, found);
-        } else {
-            self.runs.drop_last();
-        }
-    }
-
-    /// Goes on with the run of a place. Whether there is one is told.
-    fn go_on(
-        &mut self,
-        search: &Search<'a>,
-        place: usize,
-        awaited: Awaited,
-        found: &mut Leads<'a>,
-    ) -> bool {
-        let Some(run) = self.runs.runs.get(place) else {
-            return false;
-        };
-        add_moved(search, run, &mut self.next);
+    /// Takes the runs that come next and weren't met before, and adds those in which something may be tried then.
+    fn take_next(&mut self, search: &Search<'a>, trial: Trial, found: &mut Leads<'a>) {
         for _ in 0..self.next.runs.len() {
             if let Some(run) = self.next.runs.pop() {
                 self.runs.push(run);
             }
-            self.go_to_last(search, awaited, found);
-        }
-        true
-    }
-
-    /// Goes on by breadth, until enough moves help or there are none.
-    fn search(&mut self, search: &Search<'a>, awaited: Awaited, found: &mut Leads<'a>) {
-        for place in 0..MOST_STEPS {
-            if !self.go_on(search, place, awaited, found) || self.helped >= MOST_FOUND {
-                break;
-            }
+            self.go_to_last(search, trial, found);
         }
     }
 }
 
-/// Adds the runs in which the world moves first, by breadth, and then the call of a process shows the entry of a place.
+/// Adds the runs in which the world moves first, by breadth, and then something may be tried, until enough are found.
 pub(crate) fn add_by_world<'a>(
     search: &Search<'a>,
     lead: &Lead<'a>,
-    awaited: Awaited,
+    trial: Trial,
     found: &mut Leads<'a>,
 ) {
     let mut moving = Moving {
@@ -167,8 +148,19 @@ pub(crate) fn add_by_world<'a>(
         next: Leads::new(search.alloc),
         helped: 0,
     };
-    moving.runs.add_branch(search, lead);
-    moving.search(search, awaited, found);
+    let moving = &mut moving;
+    add_moved(search, lead, &mut moving.next);
+    moving.take_next(search, trial, found);
+    for place in 0..MOST_STEPS - 1 {
+        if moving.helped >= MOST_FOUND {
+            break;
+        }
+        let Some(run) = moving.runs.runs.get(place) else {
+            break;
+        };
+        add_moved(search, run, &mut moving.next);
+        moving.take_next(search, trial, found);
+    }
     if moving.runs.is_short || moving.next.is_short {
         found.is_short = true;
     }
