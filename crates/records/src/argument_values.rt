@@ -6,17 +6,11 @@ use crate::strace_results::note_end;
 use crate::strace_texts::{after, before, number, same_bytes, without_spaces};
 use texts::first_part;
 
-/// A descriptor as an argument tells it, with what is noted of it: an empty note where there is none.
+/// A descriptor as an argument tells it, with what is noted of it and what stands behind it: nothing where there is none.
 #[derive(Clone, Copy)]
 pub(crate) struct Mention<'t> {
     pub number: u32,
     pub note: &'t [u8],
-}
-
-/// A descriptor that a text begins with, and what stands behind it.
-#[derive(Clone, Copy)]
-pub(crate) struct First<'t> {
-    pub mention: Mention<'t>,
     pub behind: &'t [u8],
 }
 
@@ -49,45 +43,37 @@ pub(crate) fn inside(note: &[u8]) -> &[u8] {
 }
 
 /// The descriptor that a text begins with, if it begins with one.
-pub(crate) fn first_of(text: &[u8]) -> Option<First<'_>> {
-    let (digits, behind) = text.split_at(digits_end(text));
-    if !matches!(behind, [] | [b'<' | b']' | b'}' | b',' | b' ', ..]) {
+pub(crate) fn mention_of(text: &[u8]) -> Option<Mention<'_>> {
+    let (digits, rest) = text.split_at(digits_end(text));
+    if !matches!(rest, [] | [b'<' | b']' | b'}' | b',' | b' ', ..]) {
         return None;
     }
-    let (note, behind) = behind.split_at(first_note_end(behind));
-    let Some(number) = number(digits) else {
-        return None;
-    };
-    let mention = Mention {
-        number,
-        note: inside(note),
-    };
-    Some(First { mention, behind })
-}
-
-/// The descriptor that an argument begins with.
-pub(crate) fn mention_of(argument: &[u8]) -> Option<Mention<'_>> {
-    match first_of(argument) {
-        Some(first) => Some(first.mention),
+    let (note, behind) = rest.split_at(first_note_end(rest));
+    match number(digits) {
+        Some(number) => Some(Mention {
+            number,
+            note: inside(note),
+            behind,
+        }),
         None => None,
     }
 }
 
 /// The first descriptor of those in brackets, such as `[3</a>, 4]` or `{3,4}`, that a text begins with.
-pub(crate) fn first_listed(text: &[u8]) -> Option<First<'_>> {
+pub(crate) fn first_listed(text: &[u8]) -> Option<Mention<'_>> {
     match text {
-        [b'[' | b'{', rest @ ..] => first_of(without_spaces(rest)),
+        [b'[' | b'{', rest @ ..] => mention_of(without_spaces(rest)),
         _ => None,
     }
 }
 
 /// The next descriptor of a list, of which this text stands behind the one before.
-pub(crate) fn next_listed(behind: &[u8]) -> Option<First<'_>> {
+pub(crate) fn next_listed(behind: &[u8]) -> Option<Mention<'_>> {
     if let [b']' | b'}', ..] = behind {
         return None;
     }
     match first_part(behind, b',') {
-        (_, Some(next)) => first_of(without_spaces(next)),
+        (_, Some(next)) => mention_of(without_spaces(next)),
         (_, None) => None,
     }
 }

@@ -4,8 +4,8 @@ use crate::entries::{Entry, Event, Outcome};
 use rights::{Call, Memory};
 use std::alloc::Global;
 
-/// The processes that a record's calls make.
-fn children(alloc: Global, entries: &[Entry]) -> Result<Vec<u32>, Memory> {
+/// The processes of a record that none of its calls makes, in the order in which they come.
+pub fn first_processes(alloc: Global, entries: &[Entry]) -> Result<Vec<u32>, Memory> {
     let mut made = Vec::new(alloc);
     for entry in entries {
         if let Event::Called(call) = &entry.event {
@@ -14,11 +14,6 @@ fn children(alloc: Global, entries: &[Entry]) -> Result<Vec<u32>, Memory> {
             }
         }
     }
-    Ok(made)
-}
-
-/// The processes of the entries that are none of these, in the order in which they come.
-fn others(alloc: Global, entries: &[Entry], made: &[u32]) -> Result<Vec<u32>, Memory> {
     let mut first = Vec::new(alloc);
     for entry in entries {
         let is_counted = !matches!(entry.event, Event::Omitted(_));
@@ -28,10 +23,4 @@ fn others(alloc: Global, entries: &[Entry], made: &[u32]) -> Result<Vec<u32>, Me
         }
     }
     Ok(first)
-}
-
-/// The processes of a record that none of its calls makes, in the order in which they come.
-pub fn first_processes(alloc: Global, entries: &[Entry]) -> Result<Vec<u32>, Memory> {
-    let made = children(alloc, entries)?;
-    others(alloc, entries, &made)
 }

@@ -9,7 +9,7 @@ use crate::argument_values::{Mention, behind, place_note, socket_inode};
 use crate::entries::Binding;
 use crate::held::{Held, Kept, WORLD};
 use crate::processes::Process;
-use crate::strings::unescaped;
+use crate::strings::add_unescaped;
 use std::alloc::{AllocError, Global};
 use std::collections::BTreeMap;
 use texts::Page;
@@ -56,6 +56,13 @@ impl Known {
         }
     }
 
+    /// Notes whether memory was refused for a text that should be known.
+    pub(crate) fn note(&mut self, page: &Page) {
+        if page.finish().is_err() {
+            self.is_short = true;
+        }
+    }
+
     /// Keeps a place, if it isn't too long.
     pub(crate) fn keep(&mut self, place: Page) -> Kept {
         if place.as_bytes().len() > MAX_PLACE {
@@ -93,11 +100,16 @@ impl Known {
 
     /// What a note says of a descriptor that was not known before.
     pub(crate) fn kept_of_note(&mut self, note: &[u8]) -> Kept {
-        match place_note(note) {
-            Some(place) => self.keep(unescaped(self.alloc, place)),
-            None if note.is_empty() => Kept::Unknown,
-            None => self.end_of_note(note),
-        }
+        let Some(noted) = place_note(note) else {
+            return if note.is_empty() {
+                Kept::Unknown
+            } else {
+                self.end_of_note(note)
+            };
+        };
+        let mut place = Page::new(self.alloc);
+        add_unescaped(&mut place, noted);
+        self.keep(place)
     }
 
     /// What a descriptor is of, or else what its note tells.
@@ -131,33 +143,16 @@ impl Known {
     /// Takes a number of the world's pair for the node that its note tells, since it has an offset.
     pub(crate) fn take_for_file(&mut self, mention: Mention<'_>) {
         let note = mention.note;
-        let is_world = matches!(self.process.table.kept(mention.number), Kept::End(0, _));
-        let is_device = behind(note, b"<char ").is_some() || behind(note, b"<block ").is_some();
-        if is_world && place_note(note).is_some() && !is_device {
+        if !matches!(self.process.table.kept(mention.number), Kept::End(0, _)) {
+            return;
+        }
+        if behind(note, b"<char ").is_some() || behind(note, b"<block ").is_some() {
+            return;
+        }
+        if place_note(note).is_some() {
             let kept = self.kept_of_note(note);
             self.hold(mention.number, kept, false);
         }
-    }
-
-    /// What is told of a descriptor that is of this: an end if it is known to be one, or else if its note tells one.
-    fn told(&self, kept: Kept, note: &[u8]) -> Kept {
-        match kept {
-            Kept::Unknown | Kept::Place(_) if is_end_note(note) => self.end_of_note(note),
-            _ => kept,
-        }
-    }
-
-    /// The place that is told of a descriptor which is of this: that of its note, or else the one that is known.
-    fn told_place(&self, kept: Kept, note: &[u8]) -> Option<Page> {
-        if let Some(place) = place_note(note) {
-            return Some(unescaped(self.alloc, place));
-        }
-        let Some(known) = self.place_of(kept) else {
-            return None;
-        };
-        let mut place = Page::new(self.alloc);
-        place.page(known);
-        Some(place)
     }
 
     /// Adds what a descriptor is, if there is one and it is known.
@@ -173,16 +168,30 @@ impl Known {
             return Ok(());
         };
         let descriptor = mention.number;
-        let kept = self.told(self.process.table.kept(descriptor), mention.note);
+        // Where it isn't known to be an end, its note counts.
+        let kept = match self.process.table.kept(descriptor) {
+            Kept::Unknown | Kept::Place(_) if is_end_note(mention.note) => {
+                self.end_of_note(mention.note)
+            }
+            kept => kept,
+        };
         if let Kept::End(pair, side) = kept {
             bindings.push(Binding::End {
                 descriptor,
                 pair,
                 side,
             })?;
-        } else if let Some(place) = self.told_place(kept, mention.note) {
-            bindings.push(place_binding(descriptor, place.into_bytes()?))?;
+            return Ok(());
         }
+        let mut place = Page::new(self.alloc);
+        if let Some(noted) = place_note(mention.note) {
+            add_unescaped(&mut place, noted);
+        } else if let Some(known) = self.place_of(kept) {
+            place.page(known);
+        } else {
+            return Ok(());
+        }
+        bindings.push(place_binding(descriptor, place.into_bytes()?))?;
         Ok(())
     }
 

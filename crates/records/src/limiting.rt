@@ -7,7 +7,6 @@ use crate::runs::Run;
 use crate::seen_calls::SeenCall;
 use crate::strace_texts::{after, between, same_bytes, without_spaces};
 use rights::Call;
-use std::alloc::Global;
 use texts::{Page, first_part};
 
 /// How many names of rights are listed at most.
@@ -21,9 +20,9 @@ const SPELLINGS: [(&[u8], &[u8]); 4] = [
     (b"PWRITE", b"WRITE,SEEK"),
 ];
 
-/// A name of a right or a command, by these spellings.
-fn spelt<'t>(spellings: &[(&'t [u8], &'t [u8])], name: &'t [u8]) -> &'t [u8] {
-    for (own, spelling) in spellings {
+/// A name, as the calls here have it.
+fn spelt(name: &[u8]) -> &[u8] {
+    for (own, spelling) in &SPELLINGS {
         if same_bytes(name, own) {
             return spelling;
         }
@@ -31,45 +30,58 @@ fn spelt<'t>(spellings: &[(&'t [u8], &'t [u8])], name: &'t [u8]) -> &'t [u8] {
     name
 }
 
-/// Adds a name that stands behind this beginning, as the calls here have it, behind a comma.
-fn add_name(page: &mut Page, word: &[u8], beginning: &[u8]) {
-    let (word, _blanks) = first_part(without_spaces(word), b' ');
-    if let Some(name) = after(word, beginning) {
-        page.bytes(b",");
-        page.bytes(spelt(&SPELLINGS, name));
-    }
-}
-
-/// The names in braces that an argument lists, as `{ CAP_READ,CAP_SEEK }`, without this beginning; nothing of an argument without braces.
-fn listed(alloc: Global, argument: &[u8], beginning: &[u8]) -> Option<Page> {
+/// Adds the names in braces that an argument lists, as `{ CAP_READ,CAP_SEEK }`, without this beginning. Whether it lists any is told.
+fn add_listed(page: &mut Page, argument: &[u8], beginning: &[u8]) -> bool {
     let Some(mut rest) = between(without_spaces(argument), b"{", b"}") else {
-        return None;
+        return false;
     };
-    let mut page = Page::new(alloc);
     for _ in 0..MOST_NAMES {
-        let (word, behind) = first_part(rest, b',');
-        add_name(&mut page, word, beginning);
+        let (part, behind) = first_part(rest, b',');
+        let (word, _blanks) = first_part(without_spaces(part), b' ');
+        if let Some(name) = after(word, beginning) {
+            page.bytes(b",");
+            page.bytes(spelt(name));
+        }
         let Some(behind) = behind else {
             break;
         };
         rest = behind;
     }
-    Some(page)
+    true
 }
 
-/// Takes a limit of the rights of a descriptor, or of its fcntl commands.
-pub(crate) fn take(run: &mut Run, seen: &SeenCall<'_>, mention: Mention<'_>, of_rights: bool) {
+/// Takes a limit with these names.
+fn add_limit(
+    run: &mut Run,
+    seen: &SeenCall<'_>,
+    mention: Mention<'_>,
+    of_rights: bool,
+    page: &mut Page,
+) -> Option<Reason> {
     let beginning: &[u8] = if of_rights { b"CAP_" } else { b"CAP_FCNTL_" };
-    let Some(names) = listed(run.known.alloc, seen.argument(1), beginning) else {
-        return run.omit(seen, Reason::Unknown);
-    };
+    if !add_listed(page, seen.argument(1), beginning) {
+        return Some(Reason::Unknown);
+    }
+    run.known.note(page);
     let number = Given::Number(mention.number);
     let about = [Some(mention), None];
     if of_rights {
-        let given = [number, Given::Rights(&names)];
+        let given = [number, Given::Rights(page.as_bytes())];
         run.add(seen, Call::CapRightsLimit, &given, seen.outcome, about);
     } else {
-        let given = [number, Given::Commands(&names)];
+        let given = [number, Given::Commands(page.as_bytes())];
         run.add(seen, Call::CapFcntlsLimit, &given, seen.outcome, about);
     }
+    None
+}
+
+/// Takes a limit of the rights of a descriptor, or of its fcntl commands. Why it is left out is told, if it is.
+pub(crate) fn take(
+    run: &mut Run,
+    seen: &SeenCall<'_>,
+    mention: Mention<'_>,
+    of_rights: bool,
+) -> Option<Reason> {
+    let mut page = Page::new(run.known.alloc);
+    add_limit(run, seen, mention, of_rights, &mut page)
 }

@@ -45,21 +45,6 @@ impl When {
             process,
         }
     }
-
-    /// The entry of what happens then.
-    fn entry(self, event: Event) -> Entry
-        requires { is_event (event_seen event) ≡ true }
-        ensures { is_entry (record_entry_seen result) ≡ true }
-    {
-        Entry {
-            span: Span {
-                first: self.first,
-                last: self.last,
-            },
-            process: self.process,
-            event,
-        }
-    }
 }
 
 /// A call that is left out, and perhaps a right of a descriptor that is wanted for it.
@@ -112,7 +97,17 @@ impl Log {
         requires { IfOk event (λ event. is_event (event_seen event) ≡ true) }
     {
         let is_added = match event {
-            Ok(event) => self.entries.push(when.entry(event)).is_ok(),
+            Ok(event) => {
+                let entry = Entry {
+                    span: Span {
+                        first: when.first,
+                        last: when.last,
+                    },
+                    process: when.process,
+                    event,
+                };
+                self.entries.push(entry).is_ok()
+            }
             Err(_) => false,
         };
         self.is_short = self.is_short || !is_added;

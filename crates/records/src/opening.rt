@@ -3,7 +3,6 @@
 use crate::argument_values::has_word;
 use crate::entries::{Outcome, Reason};
 use crate::forms::Opening;
-use crate::held::Kept;
 use crate::real_calls::Given;
 use crate::runs::Run;
 use crate::seen_calls::SeenCall;
@@ -31,40 +30,37 @@ const ASKED_MORE: [(&[u8], &[u8]); 3] = [
     (b"O_NOFOLLOW", b"ELOOP"),
 ];
 
-/// Whether an open with these flags fails for one of those.
-fn is_asked_more(asked: &[(&[u8], &[u8])], flags: &[u8], error: &[u8]) -> bool {
-    for (flag, brought) in asked {
-        if same_bytes(error, brought) && has_word(flags, flag) {
-            return true;
-        }
-    }
-    false
-}
-
 /// Puts an opened descriptor into its process's table.
-fn hold(run: &mut Run, seen: &SeenCall<'_>, target: &Option<Target<'_>>, closes_on_exec: bool) {
+fn hold(run: &mut Run, seen: &SeenCall<'_>, target: &Target<'_>, closes_on_exec: bool) {
     let Some(made) = seen.made else {
         return;
     };
-    let kept = match target {
-        Some(target) if made.note.is_empty() => match run.known.place_at(target) {
-            Some(place) => run.known.keep(place),
-            None => Kept::Unknown,
-        },
-        _ => run.known.kept_of_note(made.note),
+    let kept = if made.note.is_empty() {
+        run.known.kept_at(target)
+    } else {
+        run.known.kept_of_note(made.note)
     };
     run.known.hold(made.number, kept, closes_on_exec);
 }
 
-/// An open of what stands at a name, with these flags.
+/// An open of what stands at a name, with flags of which these are asked.
 fn add_open(
     run: &mut Run,
     seen: &SeenCall<'_>,
     target: &Target<'_>,
-    flags: OpenFlags,
-    outcome: Option<Outcome>,
-) {
-    let path = Given::Path(&target.path);
+    flags: Option<OpenFlags>,
+    asked: &[u8],
+) -> Option<Reason> {
+    let (Some(flags), true) = (flags, target.is_known) else {
+        return Some(Reason::Unknown);
+    };
+    let mut outcome = seen.outcome;
+    for (flag, brought) in &ASKED_MORE {
+        if same_bytes(seen.error, brought) && has_word(asked, flag) {
+            outcome = None;
+        }
+    }
+    let path = Given::Path(target.path.as_bytes());
     let flags = Given::Flags(flags);
     let about = [target.base, seen.made];
     match target.base {
@@ -74,28 +70,21 @@ fn add_open(
             run.add(seen, Call::Openat, &given, outcome, about);
         }
     }
+    None
 }
 
-/// Takes an open.
-pub(crate) fn take(run: &mut Run, seen: &SeenCall<'_>, opening: Opening) {
+/// Takes an open. Why it is left out is told, if it is.
+pub(crate) fn take(run: &mut Run, seen: &SeenCall<'_>, opening: Opening) -> Option<Reason> {
     let (naming, at) = match opening {
         Opening::At => (AT, 2),
         Opening::Plain | Opening::Creat => (HERE, 1),
     };
     let asked = seen.argument(at);
-    let target = run.known.target(seen, naming);
-    hold(run, seen, &target, has_word(asked, b"O_CLOEXEC"));
     let flags = match opening {
         Opening::Creat => OpenFlags::new(false, true, false, true, true),
         Opening::Plain | Opening::At => flags_of(asked),
     };
-    let outcome = if is_asked_more(&ASKED_MORE, asked, seen.error) {
-        None
-    } else {
-        seen.outcome
-    };
-    match (&target, flags) {
-        (Some(target), Some(flags)) => add_open(run, seen, target, flags, outcome),
-        _ => run.omit(seen, Reason::Unknown),
-    }
+    let target = run.known.target(seen, naming);
+    hold(run, seen, &target, has_word(asked, b"O_CLOEXEC"));
+    add_open(run, seen, &target, flags, asked)
 }

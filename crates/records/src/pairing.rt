@@ -28,54 +28,52 @@ fn add_nonblock(run: &mut Run, seen: &SeenCall<'_>, end: Mention<'_>) {
 /// A pair with these ends.
 fn add_pair(run: &mut Run, seen: &SeenCall<'_>, first: Mention<'_>, second: Mention<'_>) {
     let pair = run.known.new_pair();
-    let closes_on_exec = seen.has(FLAGS, b"SOCK_CLOEXEC") || seen.has(FLAGS, b"O_CLOEXEC");
+    let closes_on_exec = seen.has_any(FLAGS, &[b"SOCK_CLOEXEC", b"O_CLOEXEC"]);
     hold_end(run, first, Kept::End(pair, Side::A), closes_on_exec);
     hold_end(run, second, Kept::End(pair, Side::B), closes_on_exec);
     let outcome = Some(Outcome::Success(first.number));
     let about = [Some(first), Some(second)];
     run.add(seen, Call::Socketpair, &[], outcome, about);
-    if seen.has(FLAGS, b"SOCK_NONBLOCK") || seen.has(FLAGS, b"O_NONBLOCK") {
+    if seen.has_any(FLAGS, &[b"SOCK_NONBLOCK", b"O_NONBLOCK"]) {
         add_nonblock(run, seen, first);
         add_nonblock(run, seen, second);
     }
 }
 
-/// Takes a call that makes a pair, whose ends are listed in this argument.
-pub(crate) fn take(run: &mut Run, seen: &SeenCall<'_>, ends: usize) {
+/// Takes a call that makes a pair, whose ends are listed in this argument. Why it is left out is told, if it is.
+pub(crate) fn take(run: &mut Run, seen: &SeenCall<'_>, ends: usize) -> Option<Reason> {
     if !seen.succeeds() {
-        return run.add_alone(seen, Call::Socketpair, seen.outcome);
+        run.add_alone(seen, Call::Socketpair, seen.outcome);
+        return None;
     }
     let Some(first) = first_listed(seen.argument(ends)) else {
-        return run.omit(seen, Reason::Unknown);
+        return Some(Reason::Unknown);
     };
-    match next_listed(first.behind) {
-        Some(second) => add_pair(run, seen, first.mention, second.mention),
-        None => run.omit(seen, Reason::Unknown),
-    }
+    let Some(second) = next_listed(first.behind) else {
+        return Some(Reason::Unknown);
+    };
+    add_pair(run, seen, first, second);
+    None
 }
 
-/// Another number for the end of the world's pair that has this one, if one is made.
-fn add_world(run: &mut Run, seen: &SeenCall<'_>, world: u32, made: Option<Mention<'_>>) {
+/// Takes a call that makes a descriptor of the world: another number for an end of the world's pair that the process had before. Why it is
+/// left out is told, if it is.
+pub(crate) fn take_world(run: &mut Run, seen: &SeenCall<'_>) -> Option<Reason> {
     let world = Mention {
-        number: world,
+        number: run.known.process.table.world_number(),
         note: b"",
+        behind: b"",
     };
-    run.add_on(seen, Call::Dup, world, made, seen.outcome);
-}
-
-/// Takes a call that makes a descriptor of the world: another number for an end of the world's pair that the process had before.
-pub(crate) fn take_world(run: &mut Run, seen: &SeenCall<'_>) {
-    let world = run.known.process.table.world_number();
-    match seen.outcome {
+    let made = match seen.outcome {
         Some(Outcome::Success(number)) => {
             run.known.hold(number, WORLD, closes_on_exec(seen.text));
-            add_world(run, seen, world, Some(Mention { number, note: b"" }));
+            Some(Mention { number, ..world })
         }
-        Some(Outcome::Failure(Errno::EMFILE | Errno::ENFILE)) => {
-            add_world(run, seen, world, None)
-        }
-        _ => run.omit(seen, Reason::Unknown),
-    }
+        Some(Outcome::Failure(Errno::EMFILE | Errno::ENFILE)) => None,
+        _ => return Some(Reason::Unknown),
+    };
+    run.add_on(seen, Call::Dup, world, made, seen.outcome);
+    None
 }
 
 /// Makes the descriptor known that is listened on: of the world, where nothing else is known.
@@ -89,8 +87,12 @@ fn listen_on(run: &mut Run, listener: Mention<'_>) {
 fn add_connection(run: &mut Run, seen: &SeenCall<'_>, listener: Mention<'_>, made: Mention<'_>) {
     listen_on(run, listener);
     let pair = run.known.new_pair();
-    let closes_on_exec = closes_on_exec(seen.text);
-    hold_end(run, made, Kept::End(pair, Side::A), closes_on_exec);
+    hold_end(
+        run,
+        made,
+        Kept::End(pair, Side::A),
+        closes_on_exec(seen.text),
+    );
     run.add_on(seen, Call::Recvfd, listener, Some(made), seen.outcome);
     if seen.has(CONNECTION_FLAGS, b"SOCK_NONBLOCK") {
         add_nonblock(run, seen, made);
@@ -98,14 +100,19 @@ fn add_connection(run: &mut Run, seen: &SeenCall<'_>, listener: Mention<'_>, mad
     run.want(seen, OtherRight::Accept, Some(listener));
 }
 
-/// Takes a call that makes a connection, which comes through the descriptor that is listened on.
-pub(crate) fn take_connection(run: &mut Run, seen: &SeenCall<'_>) {
-    match (seen.mention(0), seen.made, seen.outcome) {
-        (Some(listener), Some(made), _) => add_connection(run, seen, listener, made),
-        (Some(listener), None, Some(Outcome::Failure(Errno::EMFILE))) => {
-            listen_on(run, listener);
-            run.add_plain(seen, Call::Recvfd, listener);
-        }
-        _ => run.omit(seen, Reason::Unknown),
+/// Takes a call that makes a connection, which comes through the descriptor that is listened on. Why it is left out is told, if it is.
+pub(crate) fn take_connection(run: &mut Run, seen: &SeenCall<'_>) -> Option<Reason> {
+    let Some(listener) = seen.mention(0) else {
+        return Some(Reason::Unknown);
+    };
+    if let Some(made) = seen.made {
+        add_connection(run, seen, listener, made);
+        return None;
     }
+    if !matches!(seen.outcome, Some(Outcome::Failure(Errno::EMFILE))) {
+        return Some(Reason::Unknown);
+    }
+    listen_on(run, listener);
+    run.add_on(seen, Call::Recvfd, listener, None, seen.outcome);
+    None
 }

@@ -27,23 +27,6 @@ fn add_execute(run: &mut Run, seen: &SeenCall<'_>) {
         }
         run.known.process.is_loading = true;
     }
-    run.omit(seen, Reason::Global);
-}
-
-/// A new current directory, or a new root directory, by its name.
-fn change(run: &mut Run, seen: &SeenCall<'_>, is_root: bool) {
-    if seen.succeeds() {
-        let place = match run.known.target(seen, HERE) {
-            Some(target) => run.known.keep(target.path),
-            None => Kept::Unknown,
-        };
-        if is_root {
-            run.known.process.root = place;
-        } else {
-            run.known.process.directory = place;
-        }
-    }
-    run.omit(seen, Reason::Global);
 }
 
 /// What asking for the mode came to: it stands in brackets.
@@ -59,22 +42,30 @@ fn mode_outcome(seen: &SeenCall<'_>) -> Option<Outcome> {
     }
 }
 
-/// Takes a call that works on a process.
-pub(crate) fn take(run: &mut Run, seen: &SeenCall<'_>, form: OnProcess) {
+/// Takes a call that works on a process. Why it is left out is told, if it is.
+pub(crate) fn take(run: &mut Run, seen: &SeenCall<'_>, form: OnProcess) -> Option<Reason> {
     match form {
-        OnProcess::Fork if is_thread(seen.text) => run.omit(seen, Reason::Quiet),
+        OnProcess::Fork if is_thread(seen.text) => return Some(Reason::Quiet),
         OnProcess::Fork => run.add_alone(seen, Call::Fork, seen.outcome),
-        OnProcess::Execute => add_execute(run, seen),
+        OnProcess::Execute => {
+            add_execute(run, seen);
+            return Some(Reason::Global);
+        }
         OnProcess::EndThread if run.known.process.leader != seen.thread => {
-            run.omit(seen, Reason::Quiet)
+            return Some(Reason::Quiet);
         }
         // A process ends once.
         OnProcess::End | OnProcess::EndThread => {
             if !run.end(seen.when) {
-                run.omit(seen, Reason::Quiet);
+                return Some(Reason::Quiet);
             }
         }
-        OnProcess::ChangeDirectory => change(run, seen, false),
+        OnProcess::ChangeDirectory => {
+            if seen.succeeds() {
+                run.known.process.directory = run.known.kept_named(seen);
+            }
+            return Some(Reason::Global);
+        }
         OnProcess::ChangeDirectoryTo => {
             let mention = seen.mention(0);
             if let (Some(mention), true) = (mention, seen.succeeds()) {
@@ -82,8 +73,14 @@ pub(crate) fn take(run: &mut Run, seen: &SeenCall<'_>, form: OnProcess) {
             }
             run.want(seen, OtherRight::Fchdir, mention);
         }
-        OnProcess::ChangeRoot => change(run, seen, true),
+        OnProcess::ChangeRoot => {
+            if seen.succeeds() {
+                run.known.process.root = run.known.kept_named(seen);
+            }
+            return Some(Reason::Global);
+        }
         OnProcess::EnterMode => run.add_alone(seen, Call::CapEnter, seen.outcome),
         OnProcess::GetMode => run.add_alone(seen, Call::CapGetmode, mode_outcome(seen)),
     }
+    None
 }

@@ -1,5 +1,7 @@
 //! The processes of a record, with what is known of each.
 
+ghost use Rattle.std.specs.Prelude.{◌≡◌, ◌<◌, length, true};
+
 use crate::held::{Kept, NOTHING_HELD, Table};
 use std::alloc::Global;
 use std::collections::BTreeMap;
@@ -83,7 +85,9 @@ impl Processes {
     }
 
     /// Whether a thread is the first one of a process.
-    pub(crate) fn is_leader(&self, index: usize, thread: u32) -> bool {
+    pub(crate) fn is_leader(&self, index: usize, thread: u32) -> bool
+        ensures { result ≡ true → index < length self.now.processes.items }
+    {
         index < self.processes.len() && self.processes[index].leader == thread
     }
 
@@ -139,9 +143,16 @@ impl Processes {
         }
     }
 
-    /// Ends a process: whether it went on before.
-    pub(crate) fn end(&mut self, index: usize) -> bool {
-        index < self.processes.len() && self.processes[index].end()
+    /// Ends the process of which a thread is the first one, if it goes on: its number.
+    pub(crate) fn end(&mut self, thread: u32) -> Option<u32> {
+        let Some(index) = self.find(thread) else {
+            return None;
+        };
+        if self.is_leader(index, thread) && self.processes[index].end() {
+            Some(self.processes[index].number)
+        } else {
+            None
+        }
     }
 
     /// Exchanges a process of this index and another one.

@@ -67,27 +67,20 @@ impl<'t> Reader<'t> {
         }
     }
 
-    /// The process of a fork, and whether it makes a thread: nothing where the fork has ended.
-    fn forking(&self, fork: BegunFork) -> Option<(usize, bool)> {
-        match (
-            self.begun.get(&fork.thread),
-            self.processes.find(fork.thread),
-        ) {
-            (Some(begun), Some(process)) if begun.line == fork.line => {
-                Some((process, is_thread(begun.arguments)))
-            }
-            _ => None,
-        }
-    }
-
-    /// The same of the fork that began last, of those that haven't ended and of which no child is known.
+    /// The process of the fork that began last, of those that haven't ended and of which no child is known, and whether it makes a thread.
     fn last_fork(&mut self) -> Option<(usize, bool)> {
         for _ in 0..self.forks.len() {
             let Some(fork) = self.forks.last() else {
                 return None;
             };
-            if let Some(forking) = self.forking(*fork) {
-                return Some(forking);
+            match (
+                self.begun.get(&fork.thread),
+                self.processes.find(fork.thread),
+            ) {
+                (Some(begun), Some(process)) if begun.line == fork.line => {
+                    return Some((process, is_thread(begun.arguments)));
+                }
+                _ => {}
             }
             self.forks.pop();
         }
@@ -152,12 +145,12 @@ impl<'t> Reader<'t> {
         returned: CallResult<'_>,
     ) {
         let process = self.process_of(thread);
-        let when = When::new(first, last, self.processes.number(process));
         match arguments(self.alloc, text) {
             Ok(parts) => {
-                let seen = SeenCall::new(when, thread, name, text, &parts, returned);
                 self.processes
                     .exchange(process, &mut self.run.known.process);
+                let when = When::new(first, last, self.run.known.process.number);
+                let seen = SeenCall::new(when, thread, name, text, &parts, returned);
                 taken_calls::take(&mut self.run, &seen);
                 self.processes
                     .exchange(process, &mut self.run.known.process);
@@ -192,14 +185,6 @@ impl<'t> Reader<'t> {
         }
     }
 
-    /// The call of this name that a thread has begun, which it is at no longer.
-    fn take_begun(&mut self, thread: u32, name: &[u8]) -> Option<Begun<'t>> {
-        match self.begun.get(&thread) {
-            Some(begun) if same_bytes(begun.name, name) => self.begun.remove(&thread),
-            _ => None,
-        }
-    }
-
     /// Takes the end of a call.
     fn resume(
         &mut self,
@@ -210,7 +195,12 @@ impl<'t> Reader<'t> {
         returned: CallResult<'_>,
     ) {
         self.process_of(thread);
-        let (Some(begun), Some(name)) = (self.take_begun(thread, name), CallName::new(name)) else {
+        let begun = match self.begun.get(&thread) {
+            Some(begun) if same_bytes(begun.name, name) => *begun,
+            _ => return,
+        };
+        self.begun.remove(&thread);
+        let Some(name) = CallName::new(name) else {
             return;
         };
         let mut text = Page::new(self.alloc);
@@ -233,7 +223,7 @@ impl<'t> Reader<'t> {
         }
         let process = self.process_of(thread);
         let when = When::new(line, line, self.processes.number(process));
-        self.run.omit_at(when, Reason::Unknown, name);
+        self.run.omit_at(when, Reason::Unknown, name, None);
     }
 
     /// Takes the end of a thread: of its process, where it is the first one and goes on.
@@ -241,11 +231,8 @@ impl<'t> Reader<'t> {
         if let Some(begun) = self.begun.remove(&thread) {
             self.give_up(thread, begun);
         }
-        let Some(process) = self.processes.find(thread) else {
-            return;
-        };
-        if self.processes.is_leader(process, thread) && self.processes.end(process) {
-            let when = When::new(line, line, self.processes.number(process));
+        if let Some(process) = self.processes.end(thread) {
+            let when = When::new(line, line, process);
             self.run.log.add(when, Ok(Event::Ended));
         }
     }
@@ -289,10 +276,10 @@ impl<'t> Reader<'t> {
         for (thread, begun) in left {
             self.give_up(thread, begun);
         }
-        if self.processes.is_short {
+        if self.processes.is_short || self.run.known.is_short {
             return Err(AllocError);
         }
-        self.run.into_entries()
+        self.run.log.into_entries()
     }
 }
 

@@ -9,20 +9,19 @@ use crate::operands::Operand;
 use crate::sets::{read_commands, read_rights};
 use rights::OpenFlags;
 use std::alloc::{AllocError, Global};
-use texts::Page;
 
 /// What a call is given.
 #[derive(Clone, Copy)]
 pub(crate) enum Given<'g> {
     Number(u32),
-    Path(&'g Page),
+    Path(&'g [u8]),
     Flags(OpenFlags),
     /// Whether a directory is what is removed.
     Directory(bool),
     /// The rights that a limit leaves, by their names.
-    Rights(&'g Page),
+    Rights(&'g [u8]),
     /// The fcntl commands, likewise.
-    Commands(&'g Page),
+    Commands(&'g [u8]),
 }
 
 /// The operand that is a path.
@@ -31,14 +30,6 @@ fn path_operand(path: Vec<u8>) -> Operand
     ensures within { is_real_operand (operand_seen result) ≡ true }
 {
     Operand::Path(path)
-}
-
-/// The operand that is the path of a page.
-fn copied_operand(alloc: Global, page: &Page) -> Result<Operand, AllocError>
-    ensures kind { IfOk result (λ operand. is_of_kind A_path (operand_seen operand) ≡ true) }
-    ensures within { IfOk result (λ operand. is_real_operand (operand_seen operand) ≡ true) }
-{
-    Ok(path_operand(Vec::from_slice(alloc, page.finish()?)?))
 }
 
 /// The operand that is how a file is opened.
@@ -74,11 +65,11 @@ fn operand_of(alloc: Global, given: &Given<'_>) -> Result<Operand, AllocError>
 {
     match given {
         Given::Number(number) => Ok(Operand::Number(*number)),
-        Given::Path(path) => copied_operand(alloc, path),
+        Given::Path(path) => Ok(path_operand(Vec::from_slice(alloc, path)?)),
         Given::Flags(flags) => Ok(flags_operand(*flags)),
         Given::Directory(asked) => Ok(Operand::Directory(*asked)),
-        Given::Rights(names) => Ok(rights_operand(names.finish()?)),
-        Given::Commands(names) => Ok(commands_operand(names.finish()?)),
+        Given::Rights(names) => Ok(rights_operand(names)),
+        Given::Commands(names) => Ok(commands_operand(names)),
     }
 }
 

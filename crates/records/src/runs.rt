@@ -24,25 +24,21 @@ pub(crate) struct Run {
 }
 
 impl Run {
-    /// The entries, if there was memory for all.
-    pub(crate) fn into_entries(self) -> Result<Vec<Entry>, AllocError>
-        ensures { IfOk result (λ entries. are_calls (calls_seen entries.items) ≡ true) }
-    {
-        if self.known.is_short {
-            return Err(AllocError);
-        }
-        self.log.into_entries()
-    }
-
-    /// Leaves a call of this name out.
-    pub(crate) fn omit_at(&mut self, when: When, reason: Reason, name: CallName<'_>) {
-        let event = left_out(self.known.alloc, reason, name, None);
+    /// Leaves a call of this name out, and tells the right of a descriptor that it wants.
+    pub(crate) fn omit_at(
+        &mut self,
+        when: When,
+        reason: Reason,
+        name: CallName<'_>,
+        wanted: Option<(OtherRight, u32)>,
+    ) {
+        let event = left_out(self.known.alloc, reason, name, wanted);
         self.log.add(when, event);
     }
 
     /// Leaves a call out.
     pub(crate) fn omit(&mut self, seen: &SeenCall<'_>, reason: Reason) {
-        self.omit_at(seen.when, reason, seen.name);
+        self.omit_at(seen.when, reason, seen.name, None);
     }
 
     /// Leaves a call out that wants a right of a descriptor, which is told if it is known.
@@ -56,24 +52,28 @@ impl Run {
             Some(mention) => Some((right, mention.number)),
             None => None,
         };
-        let event = left_out(self.known.alloc, Reason::Right, seen.name, wanted);
-        self.log.add(seen.when, event);
+        self.omit_at(seen.when, Reason::Right, seen.name, wanted);
     }
 
-    /// A call that came to this, with what these descriptors are and how many bytes of a stream went through.
+    /// A call that came to this, with what these descriptors are. Where the first one is an end of a pair, so many bytes of a stream went through
+    /// a read or a write as it answers.
     fn called(
         &self,
         call: Call,
         given: &[Given<'_>],
         outcome: Outcome,
         about: About<'_>,
-        bytes: Option<u32>,
     ) -> Result<Event, AllocError>
         requires { operand_kinds (call_of call) ≡ map given_kind given.now }
         ensures { IfOk result (λ event. is_event (event_seen event) ≡ true) }
     {
         let operands = operands_of(self.known.alloc, given)?;
         let bindings = self.known.bindings_of(about)?;
+        let bytes = match (call, outcome, about[0]) {
+            (Call::Read | Call::Write, Outcome::Success(bytes), Some(stream))
+                if self.known.is_end(stream) => { Some(bytes) }
+            _ => None,
+        };
         Ok(Event::Called(MadeCall {
             call,
             operands,
@@ -97,7 +97,7 @@ impl Run {
         let Some(outcome) = outcome else {
             return self.omit(seen, Reason::Unknown);
         };
-        let event = self.called(call, given, outcome, about, None);
+        let event = self.called(call, given, outcome, about);
         self.log.add(seen.when, event);
     }
 
@@ -123,13 +123,6 @@ impl Run {
         self.add(seen, call, &given, outcome, [Some(mention), made]);
     }
 
-    /// Adds a call that is given a descriptor alone, and came to what the record says.
-    pub(crate) fn add_plain(&mut self, seen: &SeenCall<'_>, call: Call, mention: Mention<'_>)
-        requires { operand_kinds (call_of call) ≡ A_number ∷ [] }
-    {
-        self.add_on(seen, call, mention, None, seen.outcome);
-    }
-
     /// Adds a call that is given a descriptor and a number.
     pub(crate) fn add_with(
         &mut self,
@@ -143,25 +136,6 @@ impl Run {
     {
         let given = [Given::Number(mention.number), Given::Number(value)];
         self.add(seen, call, &given, outcome, [Some(mention), None]);
-    }
-
-    /// Adds a call through which bytes of a stream go: so many as it answers.
-    pub(crate) fn add_streamed(
-        &mut self,
-        seen: &SeenCall<'_>,
-        call: Call,
-        given: &[Given<'_>],
-        outcome: Outcome,
-        stream: Mention<'_>,
-    )
-        requires { operand_kinds (call_of call) ≡ map given_kind given.now }
-    {
-        let bytes = match outcome {
-            Outcome::Success(bytes) if self.known.is_end(stream) => Some(bytes),
-            _ => None,
-        };
-        let event = self.called(call, given, outcome, [Some(stream), None], bytes);
-        self.log.add(seen.when, event);
     }
 
     /// Adds the end of the process, if it went on before. Whether it did is told.

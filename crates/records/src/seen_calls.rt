@@ -54,6 +54,7 @@ impl<'t> SeenCall<'t> {
             Answer::Number(number) => Some(Mention {
                 number,
                 note: inside(returned.note.unwrap_or(b"")),
+                behind: b"",
             }),
             _ => None,
         };
@@ -87,6 +88,16 @@ impl<'t> SeenCall<'t> {
     /// Whether an argument has this word.
     pub(crate) fn has(&self, at: usize, word: &[u8]) -> bool {
         has_word(self.argument(at), word)
+    }
+
+    /// Whether an argument has one of these words.
+    pub(crate) fn has_any(&self, at: usize, words: &[&[u8]]) -> bool {
+        for word in words {
+            if self.has(at, word) {
+                return true;
+            }
+        }
+        false
     }
 
     /// Whether it succeeds.

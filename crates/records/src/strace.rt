@@ -9,7 +9,7 @@ use crate::strace_results::{CallResult, result_of};
 use crate::strace_texts::{
     after, before, between, is_name, number_after, place_of, same_bytes, without_spaces,
 };
-use crate::truss::read_truss_line;
+use crate::truss::{self, read_truss_line};
 use std::alloc::{AllocError, Global};
 use texts::{Lines, first_part};
 
@@ -76,12 +76,18 @@ fn end_of(text: &[u8]) -> Told<'_> {
     }
 }
 
-/// The arguments up to the bracket that closes them, and the result behind it.
-fn ended(text: &[u8]) -> Option<(&[u8], CallResult<'_>)> {
+/// The arguments up to the bracket that closes them, and the result behind it, as truss or strace writes it.
+fn ended(text: &[u8], is_truss: bool) -> Option<(&[u8], CallResult<'_>)> {
     let Some(at) = first_at_top(text, b')') else {
         return None;
     };
-    match result_of(&text[at + 1..]) {
+    let behind = &text[at + 1..];
+    let returned = if is_truss {
+        truss::result_of(behind)
+    } else {
+        result_of(behind)
+    };
+    match returned {
         Some(returned) => Some((&text[..at], returned)),
         None => None,
     }
@@ -95,7 +101,7 @@ fn resumed_of(text: &[u8]) -> Told<'_> {
     let Some(rest) = after(rest, b"resumed>") else {
         return Told::Other;
     };
-    match ended(rest) {
+    match ended(rest, false) {
         Some((arguments, returned)) if is_name(name) => Told::Resumed {
             name,
             arguments,
@@ -119,26 +125,25 @@ fn unfinished(text: &[u8]) -> Option<&[u8]> {
     }
 }
 
-/// A call of this name, which begins on the line before this text.
-fn begun<'t>(name: &'t [u8], rest: &'t [u8]) -> Told<'t> {
-    if let Some(arguments) = unfinished(rest) {
-        return Told::Unfinished { name, arguments };
+/// A call that begins on the line, as truss or strace writes it.
+pub(crate) fn call_of(text: &[u8], is_truss: bool) -> Told<'_> {
+    let (name, Some(rest)) = first_part(text, b'(') else {
+        return Told::Other;
+    };
+    if !is_name(name) {
+        return Told::Other;
     }
-    match ended(rest) {
+    match unfinished(rest) {
+        Some(arguments) if !is_truss => return Told::Unfinished { name, arguments },
+        _ => {}
+    }
+    match ended(rest, is_truss) {
         Some((arguments, returned)) => Told::Finished {
             name,
             arguments,
             returned,
         },
         None => Told::Other,
-    }
-}
-
-/// A call that begins on the line.
-fn call_of(text: &[u8]) -> Told<'_> {
-    match first_part(text, b'(') {
-        (name, Some(rest)) if is_name(name) => begun(name, rest),
-        _ => Told::Other,
     }
 }
 
@@ -159,7 +164,7 @@ fn told_by(text: &[u8]) -> Told<'_> {
         },
         _ => match after(text, b"strace: ") {
             Some(remark) => Told::Remark(remark),
-            None => call_of(text),
+            None => call_of(text, false),
         },
     }
 }
@@ -175,10 +180,10 @@ fn read_line(line: &[u8]) -> StraceLine<'_> {
     if let Some(told) = read_truss_line(line) {
         return told;
     }
-    let header = header_of(line);
+    let (process, rest) = header_of(line);
     StraceLine {
-        process: header.process,
-        told: told_by(without_spaces(header.rest)),
+        process,
+        told: told_by(without_spaces(rest)),
     }
 }
 

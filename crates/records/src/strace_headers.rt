@@ -3,25 +3,15 @@
 use crate::strace_texts::{after, number, without_spaces};
 use texts::first_part;
 
-/// The process that a line tells, if it tells one, and what stands behind all that.
-#[derive(Clone, Copy)]
-pub(crate) struct Header<'t> {
-    pub process: Option<u32>,
-    pub rest: &'t [u8],
-}
-
-/// The process, if a line tells it, as `[pid 540] ` or `540 `.
-fn process_of(line: &[u8]) -> Option<Header<'_>> {
+/// The process that a line tells, if it tells one, as `[pid 540] ` or `540 `, and what stands behind that.
+fn process_of(line: &[u8]) -> (Option<u32>, &[u8]) {
     let (word, behind) = match after(line, b"[pid ") {
         Some(rest) => first_part(without_spaces(rest), b']'),
         None => first_part(line, b' '),
     };
     match (number(word), behind) {
-        (Some(process), Some(rest)) => Some(Header {
-            process: Some(process),
-            rest: without_spaces(rest),
-        }),
-        _ => None,
+        (Some(process), Some(rest)) => (Some(process), rest),
+        _ => (None, line),
     }
 }
 
@@ -50,20 +40,16 @@ fn behind_part<'t>(text: &'t [u8], beginning: &[u8], end: u8) -> &'t [u8] {
     }
 }
 
-/// The header of a line.
-pub(crate) fn header_of(line: &[u8]) -> Header<'_> {
-    let header = process_of(line).unwrap_or(Header {
-        process: None,
-        rest: line,
-    });
-    let rest = without_spaces(header.rest);
+/// The process that a line tells, if it tells one, and what stands behind all that.
+pub(crate) fn header_of(line: &[u8]) -> (Option<u32>, &[u8]) {
+    let (process, rest) = process_of(line);
+    let rest = without_spaces(rest);
     let rest = match first_part(rest, b' ') {
         (word, Some(behind)) if is_time(word) => without_spaces(behind),
         _ => rest,
     };
-    let rest = behind_part(rest, b"(+", b')');
-    Header {
-        process: header.process,
-        rest: behind_part(rest, b"[", b']'),
-    }
+    (
+        process,
+        behind_part(behind_part(rest, b"(+", b')'), b"[", b']'),
+    )
 }

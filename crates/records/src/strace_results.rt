@@ -67,20 +67,7 @@ pub(crate) fn note_end(text: &[u8]) -> usize
     text.len()
 }
 
-/// The answer that a word tells which is a number, in decimal or at most eight hexadecimal digits, or as a number begins.
-fn number_answer(word: &[u8]) -> Answer<'_> {
-    let told = match after(word, b"0x") {
-        Some(digits) if digits.len() <= 8 => read_hex(digits, digits.len()),
-        Some(_) => None,
-        None => number(word),
-    };
-    match told {
-        Some(number) => Answer::Number(number),
-        None => Answer::Other(word),
-    }
-}
-
-/// The answer that a word tells.
+/// The answer that a word tells: also a number, in decimal or at most eight hexadecimal digits, or what begins as a number.
 pub(crate) fn answer_of(word: &[u8]) -> Option<Answer<'_>> {
     if same_bytes(word, b"?") {
         return Some(Answer::Unknown);
@@ -88,18 +75,17 @@ pub(crate) fn answer_of(word: &[u8]) -> Option<Answer<'_>> {
     if same_bytes(word, b"-1") {
         return Some(Answer::Failure);
     }
-    match word {
-        [first, ..] if *first == b'-' || first.is_ascii_digit() => Some(number_answer(word)),
-        _ => None,
+    if !matches!(word, [b'-' | b'0'..=b'9', ..]) {
+        return None;
     }
-}
-
-/// The name of an error that a text begins with.
-fn error_of(text: &[u8]) -> Option<&[u8]> {
-    let (word, _behind) = first_part(without_spaces(text), b' ');
-    match word {
-        [b'E', ..] if is_name(word) => Some(word),
-        _ => None,
+    let told = match after(word, b"0x") {
+        Some(digits) if digits.len() <= 8 => read_hex(digits, digits.len()),
+        Some(_) => None,
+        None => number(word),
+    };
+    match told {
+        Some(number) => Some(Answer::Number(number)),
+        None => Some(Answer::Other(word)),
     }
 }
 
@@ -119,9 +105,14 @@ pub(crate) fn result_of(text: &[u8]) -> Option<CallResult<'_>> {
         }
         _ => (None, rest),
     };
+    let (word, _behind) = first_part(without_spaces(rest), b' ');
+    let error = match word {
+        [b'E', ..] if is_name(word) => Some(word),
+        _ => None,
+    };
     Some(CallResult {
         answer,
         note,
-        error: error_of(rest),
+        error,
     })
 }

@@ -1,6 +1,5 @@
 //! The strings of a record: bytes with C's escapes.
 
-use std::alloc::Global;
 use texts::Page;
 
 /// How far an escape has come.
@@ -66,9 +65,8 @@ fn add_byte(page: &mut Page, escape: Escape, byte: u8) -> Escape {
     Escape::Not
 }
 
-/// The bytes of a text with C's escapes. A backslash that begins no escape stands for the byte behind it.
-pub(crate) fn unescaped(alloc: Global, text: &[u8]) -> Page {
-    let mut page = Page::new(alloc);
+/// Adds the bytes of a text with C's escapes. A backslash that begins no escape stands for the byte behind it.
+pub(crate) fn add_unescaped(page: &mut Page, text: &[u8]) {
     let mut escape = Escape::Not;
     for byte in text {
         escape = match escape {
@@ -77,13 +75,12 @@ pub(crate) fn unescaped(alloc: Global, text: &[u8]) -> Page {
             }
             Escape::Octal(value, _) => {
                 page.bytes(&[value]);
-                add_byte(&mut page, Escape::Not, *byte)
+                add_byte(page, Escape::Not, *byte)
             }
-            _ => add_byte(&mut page, escape, *byte),
+            _ => add_byte(page, escape, *byte),
         };
     }
     if let Escape::Octal(value, _) = escape {
         page.bytes(&[value]);
     }
-    page
 }

@@ -31,8 +31,9 @@ fn first_waited<'t>(seen: &SeenCall<'t>) -> Option<Mention<'t>> {
         return mention_of(rest);
     }
     for at in 1..4 {
-        if let Some(first) = first_listed(seen.argument(at)) {
-            return Some(first.mention);
+        let first = first_listed(seen.argument(at));
+        if first.is_some() {
+            return first;
         }
     }
     None
@@ -50,30 +51,30 @@ fn is_of_loader(form: Form) -> bool {
     )
 }
 
-/// Takes a call of this form.
-fn take_form(run: &mut Run, seen: &SeenCall<'_>, form: Form) {
-    match form {
-        Form::Opens(opening) => opening::take(run, seen, opening),
-        Form::Streams(streaming) => streaming::take(run, seen, streaming),
-        Form::Descriptor(form) => descriptor_calls::take(run, seen, form),
-        Form::Name(form) => name_calls::take(run, seen, form),
-        Form::Pair(ends) => pairing::take(run, seen, ends),
-        Form::World => pairing::take_world(run, seen),
-        Form::Connection => pairing::take_connection(run, seen),
-        Form::Process(form) => process_calls::take(run, seen, form),
+/// Takes a call of this form. Why it is left out is told, if it is.
+fn take_form(run: &mut Run, seen: &SeenCall<'_>, form: Form) -> Option<Reason> {
+    let (right, wanting) = match form {
+        Form::Opens(opening) => return opening::take(run, seen, opening),
+        Form::Streams(streaming) => return streaming::take(run, seen, streaming),
+        Form::Descriptor(form) => return descriptor_calls::take(run, seen, form),
+        Form::Name(form) => return name_calls::take(run, seen, form),
+        Form::Pair(ends) => return pairing::take(run, seen, ends),
+        Form::World => return pairing::take_world(run, seen),
+        Form::Connection => return pairing::take_connection(run, seen),
+        Form::Process(form) => return process_calls::take(run, seen, form),
         // A mapping of a file wants a right; one of memory, nothing.
         Form::Map => match seen.mention(4) {
-            Some(file) if !seen.has(3, b"MAP_ANONYMOUS") => {
-                run.want(seen, mapping_right(seen), Some(file))
-            }
-            _ => run.omit(seen, Reason::Quiet),
+            Some(file) if !seen.has(3, b"MAP_ANONYMOUS") => (mapping_right(seen), Some(file)),
+            _ => return Some(Reason::Quiet),
         },
-        Form::Waits => run.want(seen, OtherRight::Event, first_waited(seen)),
-        Form::Wants(right, at) => run.want(seen, right, seen.mention(at)),
-        Form::WantsAt(_) if here_note(seen.argument(0)).is_some() => run.omit(seen, Reason::Global),
-        Form::WantsAt(right) => run.want(seen, right, seen.mention(0)),
-        Form::LeftOut(reason) => run.omit(seen, reason),
-    }
+        Form::Waits => (OtherRight::Event, first_waited(seen)),
+        Form::Wants(right, at) => (right, seen.mention(at)),
+        Form::WantsAt(_) if here_note(seen.argument(0)).is_some() => return Some(Reason::Global),
+        Form::WantsAt(right) => (right, seen.mention(0)),
+        Form::LeftOut(reason) => return Some(reason),
+    };
+    run.want(seen, right, wanting);
+    None
 }
 
 /// Takes a call. It may tell which the current directory is, where that isn't known.
@@ -97,5 +98,7 @@ pub(crate) fn take(run: &mut Run, seen: &SeenCall<'_>) {
             run.known.process.is_loading = false;
         }
     }
-    take_form(run, seen, form);
+    if let Some(reason) = take_form(run, seen, form) {
+        run.omit(seen, reason);
+    }
 }

@@ -5,7 +5,7 @@ use crate::held::Kept;
 use crate::known::Known;
 use crate::seen_calls::SeenCall;
 use crate::strace_texts::between;
-use crate::strings::unescaped;
+use crate::strings::add_unescaped;
 use texts::Page;
 
 /// Which arguments of a call a name is: a path, counted from a directory if there is one, else from the current one.
@@ -38,9 +38,10 @@ pub(crate) const NEW_AT: Naming = Naming {
     path: 3,
 };
 
-/// What a name of a call stands at: a path beneath a directory's descriptor, or a place.
+/// What a name of a call stands at, if that is known: a path beneath a directory's descriptor, or a place.
 #[derive(Drop)]
 pub(crate) struct Target<'t> {
+    pub is_known: bool,
     pub base: Option<Mention<'t>>,
     pub path: Page,
 }
@@ -56,71 +57,79 @@ fn add_beneath(place: &mut Page, path: &Page) {
 }
 
 impl Known {
-    /// The place that a path beneath a place has, if that is known.
-    fn beneath(&self, kept: Kept, path: &Page) -> Option<Page> {
-        let Some(directory) = self.place_of(kept) else {
-            return None;
-        };
-        let mut place = Page::new(self.alloc);
-        place.page(directory);
-        add_beneath(&mut place, path);
-        Some(place)
-    }
-
-    /// The place that a path has which is counted from the root of the process, or from the current directory, if that is known: by its note,
-    /// or else as it was followed.
-    fn from_here(&self, note: &[u8], path: &Page) -> Option<Page> {
+    /// Adds the place that a path has which is counted from the root of the process, or from the current directory, if that is known: by its
+    /// note, or else as it was followed. Whether it is known is told.
+    fn add_from_here(&self, place: &mut Page, note: &[u8], path: &Page) -> bool {
         if path.as_bytes().starts_with(b"/") {
-            let mut place = Page::new(self.alloc);
             if let Some(root) = self.place_of(self.process.root) {
                 place.page(root);
             }
             place.page(path);
-            return Some(place);
+            return true;
         }
-        let Some(directory) = place_note(note) else {
-            return self.beneath(self.process.directory, path);
-        };
-        let mut place = unescaped(self.alloc, directory);
-        add_beneath(&mut place, path);
-        Some(place)
+        if let Some(directory) = place_note(note) {
+            add_unescaped(place, directory);
+        } else if let Some(directory) = self.place_of(self.process.directory) {
+            place.page(directory);
+        } else {
+            return false;
+        }
+        add_beneath(place, path);
+        true
     }
 
-    /// What a name of a call stands at, if that is known: the string was written whole.
-    pub(crate) fn target<'t>(&self, seen: &SeenCall<'t>, naming: Naming) -> Option<Target<'t>> {
-        let Some(text) = between(seen.argument(naming.path), b"\"", b"\"") else {
-            return None;
-        };
-        let path = unescaped(self.alloc, text);
-        let note: &[u8] = match naming.base {
-            Some(base) if !path.as_bytes().starts_with(b"/") => match here_note(seen.argument(
-                base,
-            )) {
-                Some(note) => note,
+    /// Finds what a path stands at.
+    fn find<'t>(&self, target: &mut Target<'t>, seen: &SeenCall<'t>, naming: Naming, path: &Page) {
+        let mut note: &[u8] = b"";
+        if let (Some(base), false) = (naming.base, path.as_bytes().starts_with(b"/")) {
+            match here_note(seen.argument(base)) {
+                Some(directory) => note = directory,
                 None => {
-                    return match seen.mention(base) {
-                        None => None,
-                        base => Some(Target { base, path }),
-                    };
+                    target.base = seen.mention(base);
+                    target.is_known = target.base.is_some();
+                    return target.path.page(path);
                 }
-            },
-            _ => b"",
-        };
-        match self.from_here(note, &path) {
-            Some(path) => Some(Target { base: None, path }),
-            None => None,
-        }
-    }
-
-    /// The place of what a name stands at, if it is known.
-    pub(crate) fn place_at(&self, target: &Target<'_>) -> Option<Page> {
-        match target.base {
-            Some(base) => self.beneath(self.process.table.kept(base.number), &target.path),
-            None => {
-                let mut place = Page::new(self.alloc);
-                place.page(&target.path);
-                Some(place)
             }
         }
+        target.is_known = self.add_from_here(&mut target.path, note, path);
+    }
+
+    /// What a name of a call stands at, which is known where the string was written whole.
+    pub(crate) fn target<'t>(&mut self, seen: &SeenCall<'t>, naming: Naming) -> Target<'t> {
+        let mut target = Target {
+            is_known: false,
+            base: None,
+            path: Page::new(self.alloc),
+        };
+        if let Some(text) = between(seen.argument(naming.path), b"\"", b"\"") {
+            let mut path = Page::new(self.alloc);
+            add_unescaped(&mut path, text);
+            self.find(&mut target, seen, naming, &path);
+            self.note(&target.path);
+        }
+        target
+    }
+
+    /// What a name stands at, as it is kept.
+    pub(crate) fn kept_at(&mut self, target: &Target<'_>) -> Kept {
+        let mut place = Page::new(self.alloc);
+        if let Some(base) = target.base {
+            let Some(directory) = self.place_of(self.process.table.kept(base.number)) else {
+                return Kept::Unknown;
+            };
+            place.page(directory);
+            add_beneath(&mut place, &target.path);
+        } else if target.is_known {
+            place.page(&target.path);
+        } else {
+            return Kept::Unknown;
+        }
+        self.keep(place)
+    }
+
+    /// What the first argument of a call names, as it is kept.
+    pub(crate) fn kept_named(&mut self, seen: &SeenCall<'_>) -> Kept {
+        let target = self.target(seen, HERE);
+        self.kept_at(&target)
     }
 }

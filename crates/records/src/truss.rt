@@ -3,7 +3,7 @@
 
 use crate::argument_parts::first_at_top;
 use crate::names::error_of_number;
-use crate::strace::{StraceLine, Told};
+use crate::strace::{StraceLine, Told, call_of};
 use crate::strace_results::{Answer, CallResult, UNTOLD, answer_of};
 use crate::strace_texts::{after, is_name, number, number_after};
 use texts::first_part;
@@ -37,7 +37,7 @@ fn behind_seconds(text: &[u8]) -> &[u8] {
 }
 
 /// What a call came to: `= 3 (0x3)`, or `ERR#2 'No such file or directory'`; nothing stands behind one that doesn't return.
-fn result_of(text: &[u8]) -> Option<CallResult<'_>> {
+pub(crate) fn result_of(text: &[u8]) -> Option<CallResult<'_>> {
     let text = without_blanks(text);
     if text.is_empty() {
         return Some(UNTOLD);
@@ -63,24 +63,6 @@ fn result_of(text: &[u8]) -> Option<CallResult<'_>> {
     }
 }
 
-/// A call with its result.
-fn call_of(text: &[u8]) -> Told<'_> {
-    let (name, Some(rest)) = first_part(text, b'(') else {
-        return Told::Other;
-    };
-    let Some(at) = first_at_top(rest, b')') else {
-        return Told::Other;
-    };
-    match result_of(&rest[at + 1..]) {
-        Some(returned) if is_name(name) => Told::Finished {
-            name,
-            arguments: &rest[..at],
-            returned,
-        },
-        _ => Told::Other,
-    }
-}
-
 /// What the text behind the process tells.
 fn told_by(text: &[u8]) -> Told<'_> {
     if text.starts_with(b"<new process>") || text.starts_with(b"<thread ") {
@@ -95,7 +77,7 @@ fn told_by(text: &[u8]) -> Told<'_> {
     if let Some(signal) = after(text, b"process killed, signal = ") {
         return Told::Killed(signal);
     }
-    call_of(text)
+    call_of(text, true)
 }
 
 /// What a line tells, if it begins as those of truss do: with blanks, the process and a colon.
