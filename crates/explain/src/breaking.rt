@@ -5,7 +5,7 @@ ghost use Rattle.certificate.specs.Views.{bound_of, ceiling_of, held_end_of};
 ghost use Rattle.checker.specs.AllowanceViews.{allowance_of};
 ghost use Rattle.checker.specs.KeptUses.{arrives};
 ghost use Rattle.explain.specs.Breaking.{passes_at};
-ghost use Rattle.explain.specs.PartViews.{part_count, passes};
+ghost use Rattle.explain.specs.PartViews.{part_count, part_holds};
 ghost use Rattle.rights.specs.Sides.{other_side};
 ghost use Rattle.instruction_set.specs.Views.{instruction_of};
 ghost use Rattle.rules.specs.Authority.{is_widest, keeps_ceiling, may_come, may_start_with, stays_in};
@@ -59,10 +59,10 @@ pub(crate) enum PartTest<'a> {
 }
 
 impl<'a> PartTest<'a> {
-    /// Whether the part of this number passes.
-    #[tactic(auto, unfolding(crate::specs::PartViews::passes))]
-    fn passes(self, number: u8) -> bool
-        ensures { result ≡ passes self.entry number }
+    /// Whether the part of this number is as the rule asks.
+    #[tactic(auto, unfolding(crate::specs::PartViews::part_holds))]
+    fn holds(self, number: u8) -> bool
+        ensures { result ≡ part_holds self.entry number }
     {
         let slot = u32::from(number);
         match self {
@@ -97,10 +97,10 @@ impl<'a> PartTest<'a> {
     /// The numbers of those that fail.
     pub(crate) fn failing(self, alloc: Global) -> Result<Vec<u8>, AllocError>
         ensures { IfOk result (λ found. found.items
-            ≡ filter (λ n. not (passes self.entry n)) (range_with_len 0 (part_count self.entry))) }
+            ≡ filter (λ n. not (part_holds self.entry n)) (range_with_len 0 (part_count self.entry))) }
     {
         (0..self.count())
-            .filter(|number| !self.passes(*number))
+            .filter(|number| !self.holds(*number))
             .collect(alloc)
     }
 }

@@ -7,8 +7,8 @@ use Rattle.remarks.specs.Marked.{goes_on_mixed, is_skipping_marked}
 use Rattle.remarks.specs.Remarks.{bound_here, has_both, is_doubled, is_either_at, is_halt, is_skipping, is_stray, is_there, is_working, may_close, may_name_number, stays_idle}
 use Rattle.remarks.specs.Warnings.{is_call}
 use Rattle.remarks.specs.Ways.{is_flagged}
-use Rattle.remarks.specs.declared.bounded.PointTest.{PointTest}
-use Rattle.remarks.specs.declared.bounded.PointTest.TheVariants as test
+use Rattle.remarks.specs.declared.point_test.PointTest.{PointTest}
+use Rattle.remarks.specs.declared.point_test.PointTest.TheVariants as test
 
 abbrev pub holds : List Instruction → List (Option Bound) → PointTest → ℕ → Bool
 holds code bounds test.Bounded = has_bound bounds

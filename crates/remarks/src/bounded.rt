@@ -14,6 +14,7 @@ ghost use Rattle.rules.specs.Outcomes.{enters_mode as enters_mode_seen};
 ghost use Rattle.rules.specs.Slots.{may_be_on};
 ghost use Rattle.transfer.specs.Views.{through_of};
 
+use crate::point_test::PointTest;
 use crate::ways::{count, from_which, is_flagged};
 use certificate::{Bound, Domain, Held, ModeBound, Target};
 use instruction_set::{Instruction, Operand, Successors, Syscall, successors_at};
@@ -27,51 +28,6 @@ pub(crate) struct Bounded<'a> {
     pub code: &'a [Instruction],
     pub untrusted: bool,
     pub bounds: Vec<Option<Bound>>,
-}
-
-/// What may hold at a point of a program.
-#[derive(Clone, Copy)]
-pub(crate) enum PointTest<'f> {
-    /// It has a bound.
-    Bounded,
-    /// Its instruction is a call,
-    Calls,
-    /// one that works on what a descriptor is of,
-    Works,
-    /// one that may name a number,
-    Names(u32),
-    /// or one that may close it.
-    Closes(u32),
-    /// In the mode, a number may hold there what lies in no grant.
-    Stray(u32),
-    /// A process may be there in the mode or outside it, and goes on.
-    Unsettled,
-    /// A process comes from there to such a point without entering the mode.
-    Skipping,
-    /// The same two of a marked program, by the flags of the points at which a process may be in the mode or not.
-    UnsettledMarked(&'f [bool]),
-    SkippingMarked(&'f [bool]),
-    /// A process may be there in the mode or, where the bounds don't tell what comes behind it, enter it there.
-    MayEnter {
-        is_untold: bool,
-    },
-    /// In the mode, a way begins there with a number open that no instruction names from there on, where some work on others.
-    Idle {
-        named: &'f [bool],
-        worked: &'f [bool],
-        number: u32,
-    },
-    /// Two numbers may be both ends of a pair there,
-    Both(u32, u32),
-    /// and stay open from there on, and the point goes on.
-    Doubled {
-        closed: &'f [bool],
-        others: &'f [bool],
-        number: u32,
-        other: u32,
-    },
-    /// It isn't flagged.
-    Unflagged(&'f [bool]),
 }
 
 /// Whether it may be an end of each side of the same pair.

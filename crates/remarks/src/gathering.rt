@@ -12,7 +12,8 @@ ghost use Rattle.remarks.specs.Ways.{points};
 ghost use Rattle.task.specs.Views.{starts_of};
 ghost use Rattle.transfer.specs.Views.{through_of};
 
-use crate::bounded::{Bounded, PointTest};
+use crate::bounded::Bounded;
+use crate::point_test::PointTest;
 use crate::remarks::{Remark, Remarked, add, add_at};
 use crate::ways::{count, is_flagged, reached};
 use certificate::Bound;

@@ -9,6 +9,7 @@ mod gathering;
 mod limits;
 mod looks;
 mod marked;
+mod point_test;
 pub mod policies;
 pub mod reaching;
 pub mod remarks;

@@ -7,8 +7,9 @@ ghost use Rattle.remarks.specs.Marked.{mixed_points, skipping_marked, unsettled_
 ghost use Rattle.remarks.specs.RemarkViews.{bounds_of};
 ghost use Rattle.remarks.specs.Ways.{points};
 
-use crate::bounded::{Bounded, PointTest};
+use crate::bounded::Bounded;
 use crate::looks::may_be_off;
+use crate::point_test::PointTest;
 use crate::ways::{count, from_which, is_flagged, leads_to_flagged, only};
 use std::alloc::{AllocError, Global};
 

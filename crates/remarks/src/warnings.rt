@@ -14,10 +14,11 @@ ghost use Rattle.rules.specs.Authority.{authority_in};
 ghost use Rattle.task.specs.Views.{first_descriptor_of, grants_of, program_of};
 ghost use Rattle.texts.specs.Views.{name_of};
 
-use crate::bounded::{Bounded, PointTest};
+use crate::bounded::Bounded;
 use crate::looks::{
     goes_out, limits_nothing, looks_unlisted, makes_beyond, passes_by, takes_beyond,
 };
+use crate::point_test::PointTest;
 use crate::remarks::with_bounds;
 use crate::ways::{count, from_which, is_flagged};
 use certificate::{Authority, Bound, Ceiling, Cert, Held};

@@ -9,7 +9,9 @@ use Rattle.transfer.proofs.channels.all_have_channels.Goals as goal
 pub returns-then-through_has_channels : goal.returns-then-through_has_channels
 returns-then-through_has_channels c =
     first_passes (λ (u : Use). has_channel c.args.cert.now u u.passing) (bound_of c.args.bound.now) (syscall_of c.args.call.now)
-    (needs_in c.needed-needs.result) c.needed-needs.ensures c.through_has_channels.result c.through_has_channels-then-through_has_channels.result c.if-through_has_channels.true c.through_has_channels.ensures c.through_has_channels-then-through_has_channels.ensures
+    (needs_in c.needed-needs.result) c.needed-needs.ensures c.through_has_channels.result
+    c.through_has_channels-then-through_has_channels.result c.if-through_has_channels.true c.through_has_channels.ensures
+    c.through_has_channels-then-through_has_channels.ensures
 
 pub returns-else-through_has_channels : goal.returns-else-through_has_channels
 returns-else-through_has_channels c =
