@@ -113,34 +113,42 @@ enum Command {
 }
 
 /// The fcntl commands that are known.
-const COMMANDS: [(&[u8], Command); 15] = [
-    (b"F_GETFL", Command::Flags),
-    (b"F_SETFL", Command::NewFlags),
-    (b"F_DUPFD", Command::Duplicate),
-    (b"F_DUPFD_CLOEXEC", Command::DuplicateClosing),
-    (b"F_SETFD", Command::Closing),
-    (b"F_GETFD", Command::Nothing),
-    (b"F_SETLK", Command::Lock),
-    (b"F_SETLKW", Command::Lock),
-    (b"F_GETLK", Command::Lock),
-    (b"F_OFD_SETLK", Command::Lock),
-    (b"F_OFD_SETLKW", Command::Lock),
-    (b"F_OFD_GETLK", Command::Lock),
-    (b"F_SETLK64", Command::Lock),
-    (b"F_SETLKW64", Command::Lock),
-    (b"F_GETLK64", Command::Lock),
+const COMMANDS: [(&[&[u8]], Command); 7] = [
+    (&[b"F_GETFL"], Command::Flags),
+    (&[b"F_SETFL"], Command::NewFlags),
+    (&[b"F_DUPFD"], Command::Duplicate),
+    (&[b"F_DUPFD_CLOEXEC"], Command::DuplicateClosing),
+    (&[b"F_SETFD"], Command::Closing),
+    (&[b"F_GETFD"], Command::Nothing),
+    (
+        &[
+            b"F_SETLK",
+            b"F_SETLKW",
+            b"F_GETLK",
+            b"F_OFD_SETLK",
+            b"F_OFD_SETLKW",
+            b"F_OFD_GETLK",
+            b"F_SETLK64",
+            b"F_SETLKW64",
+            b"F_GETLK64",
+        ],
+        Command::Lock,
+    ),
 ];
+
+/// What an fcntl is asked to do.
+fn command_of(seen: &SeenCall<'_>) -> Command {
+    for (names, command) in &COMMANDS {
+        if seen.has_any(1, names) {
+            return *command;
+        }
+    }
+    Command::Unknown
+}
 
 /// An fcntl.
 fn add_fcntl(run: &mut Run, seen: &SeenCall<'_>, mention: Mention<'_>) -> Option<Reason> {
-    let mut asked = Command::Unknown;
-    for (name, command) in &COMMANDS {
-        if seen.has(1, name) {
-            asked = *command;
-            break;
-        }
-    }
-    match asked {
+    match command_of(seen) {
         Command::Flags => add_flags(run, seen, mention),
         Command::NewFlags => {
             let nonblock = seen.has_any(2, &[b"O_NONBLOCK", b"O_NDELAY"]);

@@ -30,6 +30,11 @@ const ASKED_MORE: [(&[u8], &[u8]); 3] = [
     (b"O_NOFOLLOW", b"ELOOP"),
 ];
 
+/// Whether an error is one that such a flag brings about.
+fn brings_about_more(error: &[u8], asked: &[u8]) -> bool {
+    ASKED_MORE.iter().any(|(flag, brought)| same_bytes(error, brought) && has_word(asked, flag))
+}
+
 /// Puts an opened descriptor into its process's table.
 fn hold(run: &mut Run, seen: &SeenCall<'_>, target: &Target<'_>, closes_on_exec: bool) {
     let Some(made) = seen.made else {
@@ -54,12 +59,11 @@ fn add_open(
     let (Some(flags), true) = (flags, target.is_known) else {
         return Some(Reason::Unknown);
     };
-    let mut outcome = seen.outcome;
-    for (flag, brought) in &ASKED_MORE {
-        if same_bytes(seen.error, brought) && has_word(asked, flag) {
-            outcome = None;
-        }
-    }
+    let outcome = if brings_about_more(seen.error, asked) {
+        None
+    } else {
+        seen.outcome
+    };
     let path = Given::Path(target.path.as_bytes());
     let flags = Given::Flags(flags);
     let about = [target.base, seen.made];

@@ -23,6 +23,17 @@ pub struct Recorded {
     pub silent: Vec<u32>,
 }
 
+/// The entries of the lines of a record, in the order in which the calls end.
+fn entries_of(alloc: Global, lines: &[StraceLine<'_>]) -> Result<Vec<Entry>, AllocError>
+    ensures { IfOk result (λ entries. are_calls (calls_seen entries.items) ≡ true) }
+{
+    let mut reader = Reader::new(alloc);
+    for (index, line) in lines.iter().enumerate() {
+        reader.take(line_number(index), line);
+    }
+    reader.finish()
+}
+
 /// What a record that `strace -f` has written is as calls: an entry for each, in the order in which they end. The entries are within the
 /// limits of recorded calls, and no line is passed over: the lists have just the lines in which no call of an entry begins or ends. Only
 /// want of memory may come instead. A line past 4294967295 is told by that number.
@@ -31,11 +42,7 @@ pub fn recorded_calls(alloc: Global, text: &[u8]) -> Result<Recorded, AllocError
     ensures others { IfOk result (λ recorded. ListTheOthers (length (lines_of text.now)) (calls_seen recorded.entries.items) recorded.misread.items recorded.silent.items) }
 {
     let lines = read_strace(alloc, text)?;
-    let mut reader = Reader::new(alloc);
-    for (index, line) in lines.iter().enumerate() {
-        reader.take(line_number(index), line);
-    }
-    let entries = reader.finish()?;
+    let entries = entries_of(alloc, &lines)?;
     let accounts = account(alloc, &lines, &entries)?;
     Ok(Recorded {
         entries,

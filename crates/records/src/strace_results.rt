@@ -2,7 +2,7 @@
 
 ghost use Rattle.std.specs.Prelude.{◌≤◌, length};
 
-use crate::strace_texts::{after, is_name, number, same_bytes, without_spaces};
+use crate::strace_texts::{after, is_name, number, without_spaces};
 use texts::{first_part, read_hex};
 
 /// What a call came to.
@@ -67,25 +67,26 @@ pub(crate) fn note_end(text: &[u8]) -> usize
     text.len()
 }
 
-/// The answer that a word tells: also a number, in decimal or at most eight hexadecimal digits, or what begins as a number.
-pub(crate) fn answer_of(word: &[u8]) -> Option<Answer<'_>> {
-    if same_bytes(word, b"?") {
-        return Some(Answer::Unknown);
-    }
-    if same_bytes(word, b"-1") {
-        return Some(Answer::Failure);
-    }
-    if !matches!(word, [b'-' | b'0'..=b'9', ..]) {
-        return None;
-    }
-    let told = match after(word, b"0x") {
-        Some(digits) if digits.len() <= 8 => read_hex(digits, digits.len()),
-        Some(_) => None,
-        None => number(word),
+/// The number that a word is, in decimal or at most eight hexadecimal digits, or else the word.
+fn number_or_other(word: &[u8]) -> Answer<'_> {
+    let told = match word {
+        [b'0', b'x', digits @ ..] if digits.len() <= 8 => read_hex(digits, digits.len()),
+        [b'0', b'x', ..] => None,
+        _ => number(word),
     };
     match told {
-        Some(number) => Some(Answer::Number(number)),
-        None => Some(Answer::Other(word)),
+        Some(number) => Answer::Number(number),
+        None => Answer::Other(word),
+    }
+}
+
+/// The answer that a word tells: also a number, in decimal or at most eight hexadecimal digits, or what begins as a number.
+pub(crate) fn answer_of(word: &[u8]) -> Option<Answer<'_>> {
+    match word {
+        [b'?'] => Some(Answer::Unknown),
+        [b'-', b'1'] => Some(Answer::Failure),
+        [b'-' | b'0'..=b'9', ..] => Some(number_or_other(word)),
+        _ => None,
     }
 }
 
