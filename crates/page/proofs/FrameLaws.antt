@@ -1,34 +1,11 @@
 -- Frames below each other.
-use Rattle.std.proofs.Common.{◌≡◌, ◌+◌, ◌≤◌, ℕ, All, Bool, List, [], ◌∷◌, ◌++◌}
-use Rattle.std.specs.Prelude.{cond}
-use Rattle.std.specs.List.{AllPairs}
-use Rattle.std.proofs.Common.{◌*◌, ◌<◌, ◌⊎◌, inl, inr, length, refl, true, false, arith}
-use Rattle.std.specs.List.{slice_index_or}
+use Rattle.std.proofs.Common.{◌≡◌, ◌+◌, ◌*◌, ◌<◌, ◌≤◌, ◌⊎◌, inl, inr, ℕ, All, Bool, true, false, length, refl, arith}
+use Rattle.std.specs.List.{AllPairs, slice_index_or}
 use Rattle.page.specs.declared.board.Board.{Board}
 use Rattle.page.specs.declared.board.Frame.{Frame}
 use Rattle.page.specs.declared.frames.TextLine.{TextLine}
 use Rattle.page.specs.Layout.{FitsIn}
 use Rattle.page.specs.FrameViews.{FramesApart, LettersFit, LieApart, area_of, letters_of}
-use Rattle.page.proofs.Pushes.{all-push, pairs-push}
-
--- one stands above the other
-abbrev pub Above : Frame → Frame → Type 0
-Above f g = f.top + f.block.height ≤ g.top
-
--- A frame that begins where the others end, if memory wasn't refused for it.
-pub stacked-push : (before after : List Frame) (f : Frame) (start : ℕ) (ok : Bool) → after ≡ cond ok (before ++ f ∷ []) before → AllPairs Above before
-    → All (λ g. (start ≤ g.top) × (g.top + g.block.height ≤ f.top)) before → AllPairs Above after
-stacked-push before after f start ok is stacked within = pairs-push Above before after f ok is stacked (λ k d small. (within k d small).1)
-
--- Then each lies between the start and the new one's end.
-pub within-push : (before after : List Frame) (f : Frame) (start : ℕ) (ok : Bool) → after ≡ cond ok (before ++ f ∷ []) before
-    → All (λ g. (start ≤ g.top) × (g.top + g.block.height ≤ f.top)) before → start ≤ f.top → All (λ g. (start ≤ g.top) × (g.top + g.block.height ≤ f.top + f.block.height)) after
-within-push before after f start ok is within begun =
-    all-push (λ (g : Frame). (start ≤ g.top) × (g.top + g.block.height ≤ f.top + f.block.height)) before after f ok is
-    (λ k d small. let one = within k d small in (one.0, lower (slice_index_or before k d).top (slice_index_or before k d).block.height f.top f.block.height one.1)) (begun, omega arith)
-  where
-    lower : (top height below more : ℕ) → top + height ≤ below → top + height ≤ below + more
-    lower top height below more h = omega (arith, h)
 
 -- The frames of a board lie apart, and their letters inside them.
 one-board : (b : Board) → AllPairs FramesApart b.frames.items
@@ -47,10 +24,10 @@ board-fits b k d small = lines (slice_index_or b.frames.items k d)
         fits n room more width few h = omega (arith, few, h)
 
 -- Two boards lie apart if one stands beside the other or begins below it.
-pub boards-apart : (a b : Board) → (a.left + a.width ≤ b.left) ⊎ (a.below ≤ b.start) → LieApart a.frames.items b.frames.items
+pub boards-apart : (a b : Board) → (a.strip.left + a.strip.width ≤ b.strip.left) ⊎ (a.below ≤ b.strip.start) → LieApart a.frames.items b.frames.items
 boards-apart a b apart = record { boxes_apart = one-board a; panels_apart = one-board b; both_apart = λ k d small m e within. go k d small m e within apart }
   where
-    go : (k : ℕ) (d : Frame) → k < length a.frames.items → (m : ℕ) (e : Frame) → m < length b.frames.items → (a.left + a.width ≤ b.left) ⊎ (a.below ≤ b.start)
+    go : (k : ℕ) (d : Frame) → k < length a.frames.items → (m : ℕ) (e : Frame) → m < length b.frames.items → (a.strip.left + a.strip.width ≤ b.strip.left) ⊎ (a.below ≤ b.strip.start)
         → FramesApart (slice_index_or a.frames.items k d) (slice_index_or b.frames.items m e)
     go k d small m e within (inl beside) =
         let one = a.column k d small in

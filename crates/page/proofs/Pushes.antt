@@ -11,9 +11,6 @@ pub pairs-push : {X : Type 0} (R : X → X → Type 0) (before after : List X) (
 pairs-push R before after x true is pairs each = subst (AllPairs R) (sym is) (all_pairs_push R before x pairs each)
 pairs-push R before after x false is pairs each = subst (AllPairs R) (sym is) pairs
 
-pub at-one : {X : Type 0} (P : X → Type 0) (xs : List X) (i : ℕ) (a : X) → All P xs → slice_get xs i ≡ Some a → P a
-at-one P xs i a all at = subst P (get_or_from_slice_get xs i a a at) (all i a (slice_get_within xs i a at))
-
 pub at-both : {X : Type 0} (R : X → X → Type 0) (xs : List X) (i j : ℕ) (a b : X) → AllPairs R xs → slice_get xs i ≡ Some a → slice_get xs j ≡ Some b → i < j → R a b
 at-both R xs i j a b pairs at also before =
     subst₂ R (get_or_from_slice_get xs i a a at) (get_or_from_slice_get xs j b a also) (pairs i j a before (slice_get_within xs j b also))

@@ -1,17 +1,22 @@
 -- No wire lies on one of another net.
-use Rattle.std.proofs.Common.{◌≡◌, ◌+◌, ◌-◌, ◌<◌, ◌≤◌, ◌⊎◌, inl, inr, ℕ, All, Bool, true, false, List, length, refl, sym, ◌∙◌, ap, arith}
+use Rattle.std.proofs.Common.{◌≡◌, ◌+◌, ◌*◌, ◌-◌, ◌<◌, ◌≤◌, ◌⊎◌, inl, inr, ℕ, All, Bool, true, false, List, [], ◌∷◌, ◌++◌, ◌∙◌, ap, arith, refl, subst, sym}
+use Rattle.std.proofs.Common.{get_or, length, length-append}
+use Rattle.std.proofs.lemmas.List.{get_or_append_left, get_or_push}
+use Rattle.std.proofs.lemmas.Option.{get_or_from_slice_get, slice_get-get_or, slice_get_within}
 use Rattle.std.specs.Prelude.{Some, cond, nat_lt}
 use Rattle.std.specs.List.{AllPairs, slice_get, slice_index_or}
 use Rattle.std.proofs.lemmas.Bool.Decides.{nat_tests}
-use Rattle.page.specs.declared.arrivals.Arrival.{Arrival}
+use Rattle.std.proofs.Math.Nat.{le_of_mul-le-mul_left, mul-le-mul_left}
 use Rattle.page.specs.declared.lanes.ClassLane.{ClassLane}
+use Rattle.page.specs.declared.lanes.Placed.{Placed}
 use Rattle.page.specs.declared.pictures.Target.{Target}
 use Rattle.page.specs.declared.wires.Lanes.{Lanes}
+use Rattle.page.specs.declared.wires.Spread.{Spread}
 use Rattle.page.specs.declared.wires.Ways.{Ways}
 use Rattle.page.specs.declared.wires.Wire.{Wire}
 use Rattle.page.specs.Layout.{KeepApart, Meet}
-use Rattle.page.specs.WireViews.{ArrivesFree, IsPairWire, IsPanelWire, IsWire, pair_lane, panel_lane, route_of}
-use Rattle.page.proofs.Pushes.{at-both, at-one}
+use Rattle.page.specs.WireViews.{ArriveFree, ArrivesFree, IsPairWire, IsPanelWire, IsWire, lane_at, pair_lane, panel_lane, route_of}
+use Rattle.page.proofs.Pushes.{at-both}
 
 order : (i j : ℕ) → (i < j) ⊎ ((i ≡ j) ⊎ (j < i))
 order i j = go (nat_lt i j) refl (nat_lt j i) refl
@@ -29,6 +34,33 @@ order i j = go (nat_lt i j) refl (nat_lt j i) refl
       where
         same : (m n : ℕ) → nat_lt m n ≡ false → nat_lt n m ≡ false → m ≡ n
         same m n h g = grind (arith, nat_tests)
+
+-- what stands in a list with one more element behind it: what stood there, or that one
+at-push : {X : Type 0} (xs : List X) (y : X) (i : ℕ) (x : X) → slice_get (xs ++ y ∷ []) i ≡ Some x → (slice_get xs i ≡ Some x) ⊎ ((i ≡ length xs) × (x ≡ y))
+at-push xs y i x at =
+    let is : get_or (xs ++ y ∷ []) i x ≡ x = get_or_from_slice_get (xs ++ y ∷ []) i x x at in
+    elim (order i (length xs)) [
+      | inl before ↦ inl (slice_get-get_or xs i x before ∙ ap Some (sym (get_or_append_left xs (y ∷ []) x i before) ∙ is))
+      | inr (inl last) ↦ inr (last, sym is ∙ get_or_push xs y x i (sym last))
+      | inr (inr behind) ↦
+          let within = slice_get_within (xs ++ y ∷ []) i x at in
+          let long = length-append xs (y ∷ []) in
+          absurd (omega (arith, behind, within, long))
+    ]
+
+-- a panel more, at whose height there is no row of another one, if memory wasn't refused for it
+pub free-push : (nets : List Target) (rows : List ℕ) (placed : List Placed) (before after : List ℕ) (stop i : ℕ) (ok : Bool) → after ≡ cond ok (before ++ stop ∷ []) before
+    → length before ≡ i → ArriveFree nets rows placed before → ((p : Placed) → slice_get placed i ≡ Some p → ArrivesFree nets rows p.panel stop)
+    → ArriveFree nets rows placed after
+free-push nets rows placed before after stop i true is many free one = subst (ArriveFree nets rows placed) (sym is) go
+  where
+    go : ArriveFree nets rows placed (before ++ stop ∷ [])
+    go place p height placed-at at =
+        elim (at-push before stop place height at) [
+          | inl old ↦ free place p height placed-at old
+          | inr (last, same) ↦ subst (λ h. ArrivesFree nets rows p.panel h) (sym same) (one p (ap (slice_get placed) (sym many ∙ sym last) ∙ placed-at))
+        ]
+free-push nets rows placed before after stop i false is many free one = subst (ArriveFree nets rows placed) (sym is) free
 
 -- numbers that rise
 
@@ -58,18 +90,22 @@ none-near xs i j a rise at also =
     some-same : {m n : ℕ} → Some m ≡ Some n → m ≡ n
     some-same is = cc
 
-same-arrival : (xs : List Arrival) (i j : ℕ) (a b : Arrival) → AllPairs (λ p q. p.height + 4 ≤ q.height) xs → slice_get xs i ≡ Some a → slice_get xs j ≡ Some b
-    → a.height ≡ b.height → i ≡ j
-same-arrival xs i j a b rise at also same =
-    elim (order i j) [
-      | inl before ↦ let far = at-both (λ (p q : Arrival). p.height + 4 ≤ q.height) xs i j a b rise at also before in absurd (omega (arith, far, same))
-      | inr (inl is) ↦ is
-      | inr (inr behind) ↦ let far = at-both (λ (p q : Arrival). p.height + 4 ≤ q.height) xs j i b a rise also at behind in absurd (omega (arith, far, same))
-    ]
+-- two lanes stand at two places
+same-lane : (s : Spread) (i j a b : ℕ) → a ≡ lane_at s i → b ≡ lane_at s j → a ≡ b → i ≡ j
+same-lane s i j a b is also same = go s.start s.step i j s.steps.0 (sym is ∙ same ∙ also)
+  where
+    go : (start step i j : ℕ) → 4 ≤ step → start + step * i ≡ start + step * j → i ≡ j
+    go start step i j some same =
+        let one : step * i ≤ step * j = omega (arith, same) in
+        let other : step * j ≤ step * i = omega (arith, same) in
+        let positive : 0 < step = omega (arith, some) in
+        let up = le_of_mul-le-mul_left one positive in
+        let down = le_of_mul-le-mul_left other positive in
+        omega (arith, up, down)
 
 -- two panels have two lanes
-other-lane : (l : Lanes) (a b : ℕ) → a < length l.panels.items.items → b < length l.panels.items.items → panel_lane l a ≡ panel_lane l b → a ≡ b
-other-lane l a b few also is = go (length l.panels.items.items) l.is_wide few also is
+other-lane : (l : Lanes) (a b : ℕ) → a < l.panels.count → b < l.panels.count → panel_lane l a ≡ panel_lane l b → a ≡ b
+other-lane l a b few also is = go l.panels.count l.is_wide few also is
   where
     go : (n : ℕ) (wide : Bool) → a < n → b < n → cond wide (n - 1 - a) a ≡ cond wide (n - 1 - b) b → a ≡ b
     go n true few also is = omega (arith, few, also, is)
@@ -81,34 +117,33 @@ same-net nets i j a b at also is = let same : Some a ≡ Some b = sym at ∙ ap 
 
 -- wires to panels
 
-abbrev Free : Ways → Arrival → Type 0
-Free ways a = ArrivesFree ways.nets.now ways.rows.now.items.items a.panel a.height
+abbrev Free : Ways → Type 0
+Free ways = ArriveFree ways.nets.now ways.rows.now.items.items ways.placed.now ways.arrivals.now.items.items
 
 -- one arrives at the height of the other's row
-start-at-end : (ways : Ways) → All (Free ways) ways.arrivals.now.items.items → (v w : Wire) → IsPanelWire ways v → IsPanelWire ways w → v.from.y ≡ w.to.y → v.net ≡ w.net
+start-at-end : (ways : Ways) → Free ways → (v w : Wire) → IsPanelWire ways v → IsPanelWire ways w → v.from.y ≡ w.to.y → v.net ≡ w.net
 start-at-end ways free v w p q same =
-    let leads = at-one (Free ways) ways.arrivals.now.items.items q.place q.arrival free q.at p.row (p.from ∙ ap Some (same ∙ q.to)) in
-    same-net ways.nets.now p.row p.row v.net (Target.Panel q.arrival.panel) p.net leads refl ∙ sym q.is
+    let leads = free q.place q.placed w.to.y q.at q.to p.row (p.from ∙ ap Some same) in
+    same-net ways.nets.now p.row p.row v.net (Target.Panel q.placed.panel) p.net leads refl ∙ sym q.is
 
 one-place : (ways : Ways) (v w : Wire) (p : IsPanelWire ways v) (q : IsPanelWire ways w) → p.place ≡ q.place → v.net ≡ w.net
 one-place ways v w p q same =
-    let arrivals : Some p.arrival ≡ Some q.arrival = sym p.at ∙ ap (slice_get ways.arrivals.now.items.items) same ∙ q.at in
-    let one : p.arrival ≡ q.arrival = cc in
-    p.is ∙ ap (λ (a : Arrival). Target.Panel a.panel) one ∙ sym q.is
+    let both : Some p.placed ≡ Some q.placed = sym p.at ∙ ap (slice_get ways.placed.now) same ∙ q.at in
+    let one : p.placed ≡ q.placed = cc in
+    p.is ∙ ap (λ (a : Placed). Target.Panel a.panel) one ∙ sym q.is
 
-panels-apart : (ways : Ways) → All (Free ways) ways.arrivals.now.items.items → (v w : Wire) → IsPanelWire ways v → IsPanelWire ways w → (v.net ≡ w.net → ⊥)
+panels-apart : (ways : Ways) → Free ways → (v w : Wire) → IsPanelWire ways v → IsPanelWire ways w → (v.net ≡ w.net → ⊥)
     → KeepApart (route_of v) (route_of w)
 panels-apart ways free v w p q differ =
     let rows = ways.rows.now in
-    let stops = ways.lanes.now.panels in
     record {
       starts = λ same meet. differ (same-net ways.nets.now p.row q.row v.net w.net p.net q.net (same-place rows.items.items p.row q.row v.from.y w.from.y rows.rise p.from q.from same));
       start_end = λ same meet. differ (start-at-end ways free v w p q same);
       end_start = λ same meet. differ (sym (start-at-end ways free w v q p (sym same)));
       ends = λ same meet.
-          differ (one-place ways v w p q (same-arrival ways.arrivals.now.items.items p.place q.place p.arrival q.arrival ways.arrivals.now.rise p.at q.at (sym p.to ∙ same ∙ q.to)));
+          differ (one-place ways v w p q (same-place ways.arrivals.now.items.items p.place q.place v.to.y w.to.y ways.arrivals.now.rise p.to q.to same));
       lanes = λ same meet.
-          differ (one-place ways v w p q (other-lane ways.lanes.now p.place q.place p.few q.few (same-place stops.items.items _ _ v.lane w.lane stops.rise p.lane q.lane same)));
+          differ (one-place ways v w p q (other-lane ways.lanes.now p.place q.place p.few q.few (same-lane ways.lanes.now.panels _ _ v.lane w.lane p.lane q.lane same)));
     }
 
 -- wires of pairs
@@ -136,18 +171,17 @@ one-class ways v w p q same =
     let one : p.class ≡ q.class = cc in
     p.is ∙ ap (λ (c : ClassLane). Target.Pair c.class) one ∙ sym q.is
 
-one-lane : (l : Lanes) (a b : ℕ) → a < length l.pairs.items.items → b < length l.pairs.items.items → pair_lane l a ≡ pair_lane l b → a ≡ b
-one-lane l a b few also is = go (length l.pairs.items.items) few also is
+one-lane : (l : Lanes) (a b : ℕ) → a < l.pairs.count → b < l.pairs.count → pair_lane l a ≡ pair_lane l b → a ≡ b
+one-lane l a b few also is = go l.pairs.count few also is
   where
     go : (n : ℕ) → a < n → b < n → n - 1 - a ≡ n - 1 - b → a ≡ b
     go n few also is = omega (arith, few, also, is)
 
 lanes-apart : (ways : Ways) (v w : Wire) → IsPairWire ways v → IsPairWire ways w → (v.net ≡ w.net → ⊥) → v.lane ≡ w.lane → Meet v.from.y v.to.y w.from.y w.to.y → ⊥
 lanes-apart ways v w p q differ same meet =
-    let stops = ways.lanes.now.pairs in
     let classes = ways.classes.now in
     let lane : p.class.lane ≡ q.class.lane =
-    one-lane ways.lanes.now p.class.lane q.class.lane p.few q.few (same-place stops.items.items _ _ v.lane w.lane stops.rise p.lane q.lane same) in
+    one-lane ways.lanes.now p.class.lane q.class.lane p.few q.few (same-lane ways.lanes.now.pairs _ _ v.lane w.lane p.lane q.lane same) in
     let below-v = ends-below ways v p in
     let below-w = ends-below ways w q in
     elim (order p.place q.place) [
@@ -190,7 +224,13 @@ record IsRight (ways : Ways) (w : Wire) : Type 0 where
 is-left : (ways : Ways) (w : Wire) → IsPairWire ways w → IsLeft ways w
 is-left ways w q =
     let l = ways.lanes.now in
-    record { begin = q.begin; end = q.end; lane = at-one (λ p. p < l.left) l.pairs.items.items (pair_lane l q.class.lane) w.lane l.left_of q.lane }
+    record { begin = q.begin; end = q.end; lane = go l.pairs.start l.pairs.step l.pairs.count q.class.lane w.lane l.left l.left_of q.lane }
+  where
+    go : (start step count lane x left : ℕ) → start + step * count < left → x ≡ start + step * (count - 1 - lane) → x < left
+    go start step count lane x left h is =
+        let before : count - 1 - lane ≤ count = omega arith in
+        let low = mul-le-mul_left step before in
+        omega (arith, h, is, low)
 
 is-right : (ways : Ways) (w : Wire) → IsPanelWire ways w → IsRight ways w
 is-right ways w q =
@@ -198,11 +238,9 @@ is-right ways w q =
     let begin = q.begin in
     let end = q.end in
     let arrives = l.end in
-    record {
-      begin = omega (arith, begin);
-      end = omega (arith, end, arrives);
-      lane = at-one (λ p. l.right < p) l.panels.items.items (panel_lane l q.place) w.lane l.right_of q.lane;
-    }
+    let after = l.right_of in
+    let lane = q.lane in
+    record { begin = omega (arith, begin); end = omega (arith, end, arrives); lane = omega (arith, after, lane) }
 
 sides-apart : (a b c d left right : ℕ) → left < right → right ≤ a → right ≤ b → c ≤ left → d ≤ left → Meet a b c d → ⊥
 sides-apart a b c d left right between ra rb lc ld meet = omega (arith, between, ra, rb, lc, ld, meet)
@@ -246,14 +284,14 @@ left-right ways v w l r =
 
 -- any two
 
-keep-apart : (ways : Ways) → All (Free ways) ways.arrivals.now.items.items → (v w : Wire) → IsWire ways v → IsWire ways w → (v.net ≡ w.net → ⊥)
+keep-apart : (ways : Ways) → Free ways → (v w : Wire) → IsWire ways v → IsWire ways w → (v.net ≡ w.net → ⊥)
     → KeepApart (route_of v) (route_of w)
 keep-apart ways free v w (inl p) (inl q) differ = panels-apart ways free v w p q differ
 keep-apart ways free v w (inl p) (inr q) differ = right-left ways v w (is-right ways v p) (is-left ways w q)
 keep-apart ways free v w (inr p) (inl q) differ = left-right ways v w (is-left ways v p) (is-right ways w q)
 keep-apart ways free v w (inr p) (inr q) differ = pairs-apart ways v w p q differ
 
-pub all-apart : (ways : Ways) → All (Free ways) ways.arrivals.now.items.items → (wires : List Wire) → All (IsWire ways) wires
+pub all-apart : (ways : Ways) → Free ways → (wires : List Wire) → All (IsWire ways) wires
     → AllPairs (λ v w. (v.net ≡ w.net → ⊥) → KeepApart (route_of v) (route_of w)) wires
 all-apart ways free wires are i j d before within =
     keep-apart ways free (slice_index_or wires i d) (slice_index_or wires j d) (are i d (lower i j before within)) (are j d within)

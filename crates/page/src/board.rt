@@ -1,13 +1,13 @@
 //! Where the boxes and panels stand, in whole units.
 
-ghost use Rattle.std.specs.Prelude.{◌≡◌, ◌+◌, ◌*◌, ◌≤◌, All, IfOk};
+ghost use Rattle.std.specs.Prelude.{◌≡◌, ◌+◌, ◌*◌, ◌≤◌, All};
 ghost use Rattle.std.specs.List.{AllPairs};
 
-use crate::frames::{Block, NO_WORDS, Words};
+use crate::frames::{Block, NO_WORDS, Words, faint};
 use crate::pictures::{Half, HalfKind, Program, Row};
 use crate::sentences::Tone;
 use crate::stops::Stops;
-use std::alloc::{AllocError, Global};
+use std::alloc::Global;
 
 /// The height past which nothing more is drawn.
 const MAX_BELOW: u32 = 1_000_000_000;
@@ -81,23 +81,31 @@ pub struct Frame {
     pub ghost fits: { 2 * (indent + more) + 15 * block.room ≤ 2 * width },
 }
 
-/// A column of frames below each other, and the heights at which wires leave them.
-#[derive(Drop)]
-pub struct Board {
+/// An upright strip of the picture, in which frames stand below each other.
+#[derive(Clone, Copy)]
+pub struct Strip {
     pub left: u32,
     pub width: u32,
     /// Where it begins.
     pub start: u32,
+}
+
+/// Frames below each other in a strip, and the heights at which wires leave them. Where memory is refused it goes on without what is added, and is short.
+#[derive(Drop)]
+pub struct Board {
+    pub strip: Strip,
     pub frames: Vec<Frame>,
     /// Where it ends.
     pub below: u32,
     pub ports: Stops,
-    pub ghost column: { All (λ f. (f.left ≡ left) × (f.width ≡ width)) frames.items },
-    pub ghost within: { All (λ f. (start ≤ f.top) × (f.top + f.block.height ≤ below)) frames.items },
+    /// Whether memory was refused for some of it.
+    pub is_short: bool,
+    pub ghost column: { All (λ f. (f.left ≡ strip.left) × (f.width ≡ strip.width)) frames.items },
+    pub ghost within: { All (λ f. (strip.start ≤ f.top) × (f.top + f.block.height ≤ below)) frames.items },
     pub ghost stacked: { AllPairs (λ f g. f.top + f.block.height ≤ g.top) frames.items },
-    pub ghost begun: { start ≤ below },
-    pub ghost low: { below ≤ start + 1_001_000_300 },
-    pub ghost start_low: { start ≤ 1_500_000_000 },
+    pub ghost begun: { strip.start ≤ below },
+    pub ghost low: { below ≤ strip.start + 1_001_000_300 },
+    pub ghost start_low: { strip.start ≤ 1_500_000_000 },
     pub ghost port: { ports.next ≤ below },
 }
 
@@ -127,55 +135,48 @@ const GATE_INSET: Inset = Inset {
 };
 
 impl Board {
-    /// Nothing yet, from a height on.
-    pub fn new(alloc: Global, left: u32, width: u32, start: u32) -> Board
-        requires { start ≤ 1_500_000_000 }
-        ensures left { result.left ≡ left }
-        ensures width { result.width ≡ width }
-        ensures start { result.start ≡ start }
+    /// Nothing yet in a strip.
+    pub fn new(alloc: Global, strip: Strip) -> Board
+        requires { strip.start ≤ 1_500_000_000 }
+        ensures { result.strip ≡ strip }
     {
         Board {
-            left,
-            width,
-            start,
+            strip,
             frames: Vec::new(alloc),
-            below: start,
-            ports: Stops::new(alloc, start),
+            below: strip.start,
+            ports: Stops::new(alloc, strip.start),
+            is_short: false,
         }
     }
 
     /// Adds a frame below the others. A board that is too high already takes none.
-    pub fn add(&mut self, kind: FrameKind, inset: Inset, block: Block) -> Result<(), AllocError>
-        requires fits { 2 * (inset.indent + inset.more) + 15 * block.room ≤ 2 * self.old.width }
-        requires port { block.ports.next ≤ block.height }
-        ensures left { self.new.left ≡ self.old.left }
-        ensures width { self.new.width ≡ self.old.width }
-        ensures start { self.new.start ≡ self.old.start }
+    pub fn add(&mut self, kind: FrameKind, inset: Inset, block: Block)
+        requires fits { 2 * (inset.indent + inset.more) + 15 * block.room ≤ 2 * self.old.strip.width }
+        ensures strip { self.new.strip ≡ self.old.strip }
         ensures grows { self.old.below ≤ self.new.below }
     {
         if self.below > MAX_BELOW {
-            return Ok(());
+            return;
         }
         let (top, height) = (self.below, block.height);
         self.below = top + height;
-        self.ports.push_all(&block.ports, top, height)?;
-        self.frames.push(Frame {
+        self.is_short |= block.is_short;
+        self.is_short |= self.ports.push_all(&block.ports, top, height).is_err();
+        let frame = Frame {
             kind,
-            left: self.left,
+            left: self.strip.left,
             top,
-            width: self.width,
+            width: self.strip.width,
             indent: inset.indent,
             more: inset.more,
             block,
-        })?;
-        Ok(())
+        };
+        self.is_short |= self.frames.push(frame).is_err();
     }
 
     /// Leaves a space below the frames.
     pub fn space(&mut self, height: u8)
-        ensures left { self.new.left ≡ self.old.left }
-        ensures width { self.new.width ≡ self.old.width }
-        ensures start { self.new.start ≡ self.old.start }
+        ensures strip { self.new.strip ≡ self.old.strip }
         ensures more { self.old.below ≤ MAX_BELOW → self.new.below ≡ self.old.below + height }
         ensures grows { self.old.below ≤ self.new.below }
     {
@@ -186,9 +187,7 @@ impl Board {
 
     /// Goes on at a height, if it isn't there yet.
     pub fn move_to(&mut self, below: u32)
-        ensures left { self.new.left ≡ self.old.left }
-        ensures width { self.new.width ≡ self.old.width }
-        ensures start { self.new.start ≡ self.old.start }
+        ensures strip { self.new.strip ≡ self.old.strip }
         ensures grows { self.old.below ≤ self.new.below }
         ensures below { below ≤ MAX_BELOW → below ≤ self.new.below }
     {
@@ -198,52 +197,11 @@ impl Board {
     }
 }
 
-/// The title of a program.
-fn title_block(alloc: Global, program: &Program, size: &Size) -> Result<Block, AllocError>
-    ensures room { IfOk result (λ b. b.room ≡ size.now.title_letters) }
-    ensures port { IfOk result (λ b. b.ports.next ≤ b.height) }
-{
-    let mut block = Block::new(alloc, size.title_letters);
-    let name = Words {
-        text: program.name.as_bytes(),
-        tone: Tone::Plain,
-    };
-    let processes = Words {
-        text: &program.processes,
-        tone: Tone::Faint,
-    };
-    block.space(7);
-    block.add(
-        name,
-        program.name.as_bytes().len().saturating_add(2),
-        processes,
-    )?;
-    block.space(5);
-    Ok(block)
-}
-
-/// The way into the mode.
-fn gate_block(alloc: Global, program: &Program, size: &Size) -> Result<Block, AllocError>
-    ensures room { IfOk result (λ b. b.room ≡ size.now.gate_letters) }
-    ensures port { IfOk result (λ b. b.ports.next ≤ b.height) }
-{
-    let mut block = Block::new(alloc, size.gate_letters);
-    let words = Words {
-        text: &program.enters,
-        tone: Tone::InMode,
-    };
-    block.space(6);
-    block.add(NO_WORDS, 0, words)?;
-    block.space(6);
-    Ok(block)
-}
-
 /// Adds a row of a box: its name and what it holds beside that, or below it if the name is long, and then its notes.
-fn add_row(block: &mut Block, row: &Row, column: usize) -> Result<(), AllocError>
-    requires { block.old.ports.next ≤ block.old.height }
-    ensures room { block.new.room ≡ block.old.room }
-    ensures port { block.new.ports.next ≤ block.new.height }
+fn add_row(block: &mut Block, row: &Row, column: usize)
+    ensures { block.new.room ≡ block.old.room }
 {
+    let (top, behind) = (block.height, column.saturating_add(2));
     let name = Words {
         text: &row.name,
         tone: row.tone,
@@ -252,165 +210,97 @@ fn add_row(block: &mut Block, row: &Row, column: usize) -> Result<(), AllocError
         text: &row.held,
         tone: row.tone,
     };
-    let behind = column.saturating_add(2);
     if row.name.len() > column {
-        block.add_port(NO_WORDS, 0, name)?;
-        block.add_broken(NO_WORDS, behind, held)?;
+        block.add_broken(NO_WORDS, 0, name);
+        block.add_broken(NO_WORDS, behind, held)
     } else {
-        block.add_port(name, behind, held)?;
+        block.add_broken(name, behind, held)
     }
+    block.add_port(top);
     for note in &row.notes {
         let words = Words {
             text: &note.text,
             tone: note.tone,
         };
-        block.add_broken(NO_WORDS, behind, words)?;
+        block.add_broken(NO_WORDS, behind, words);
     }
-    block.space(6);
-    Ok(())
+    block.space(6)
 }
 
-/// The first lines of a box: what it is, and how many rules it breaks.
-fn half_block(alloc: Global, half: &Half, size: &Size) -> Result<Block, AllocError>
-    ensures room { IfOk result (λ b. b.room ≡ size.now.box_letters) }
-    ensures port { IfOk result (λ b. b.ports.next ≤ b.height) }
+/// A box: what it is, how many rules it breaks, and its rows, or of a box in the mode without rows that it holds nothing.
+fn box_block(alloc: Global, half: &Half, size: &Size, column: usize) -> Block
+    ensures { result.room ≡ size.now.box_letters }
 {
-    let mut block = Block::new(alloc, size.box_letters);
-    let tone = if half.kind.is_inside() {
-        Tone::InMode
-    } else {
-        Tone::Faint
-    };
+    let is_inside = half.kind.is_inside();
     let title = Words {
         text: &half.title,
-        tone,
+        tone: if is_inside { Tone::InMode } else { Tone::Faint },
     };
-    let points = Words {
-        text: &half.points,
-        tone: Tone::Faint,
-    };
+    let mut block = Block::new(alloc, size.box_letters);
     block.space(7);
-    block.add(title, 0, points)?;
-    if let Some(breaks) = &half.breaks {
-        let words = Words {
-            text: breaks,
-            tone: Tone::Broken,
-        };
-        block.add(words, 0, NO_WORDS)?;
+    block.add(title, 0, faint(&half.points));
+    if let Some(text) = &half.breaks {
+        let tone = Tone::Broken;
+        block.add(Words { text, tone }, 0, NO_WORDS);
     }
     block.space(5);
-    Ok(block)
-}
-
-/// Adds what stands below the rows of a box: a space, and of a box in the mode without rows that it holds nothing.
-fn end_box(block: &mut Block, half: &Half) -> Result<(), AllocError>
-    requires { block.old.ports.next ≤ block.old.height }
-    ensures room { block.new.room ≡ block.old.room }
-    ensures port { block.new.ports.next ≤ block.new.height }
-{
+    for row in &half.rows {
+        add_row(&mut block, row, column);
+    }
     if !half.rows.is_empty() {
         block.space(6);
-        return Ok(());
+    } else if is_inside {
+        block.add(NO_WORDS, 0, faint(b"holds nothing"));
+        block.space(12);
     }
-    if !half.kind.is_inside() {
-        return Ok(());
-    }
-    let words = Words {
-        text: b"holds nothing",
-        tone: Tone::Faint,
+    block
+}
+
+/// Adds a program: its title, and its boxes with the way into the mode between them.
+fn add_program(board: &mut Board, program: &Program, size: &Size, column: usize)
+    requires { board.old.strip.width ≡ size.now.box_width }
+    ensures { board.new.strip ≡ board.old.strip }
+{
+    let alloc = *board.frames.allocator();
+    let name = Words {
+        text: program.name.as_bytes(),
+        tone: Tone::Plain,
     };
-    block.add(NO_WORDS, 0, words)?;
-    block.space(6);
-    block.space(6);
-    Ok(())
-}
-
-/// A box with its rows.
-fn box_block(alloc: Global, half: &Half, size: &Size, column: usize) -> Result<Block, AllocError>
-    ensures room { IfOk result (λ b. b.room ≡ size.now.box_letters) }
-    ensures port { IfOk result (λ b. b.ports.next ≤ b.height) }
-{
-    let mut block = half_block(alloc, half, size)?;
-    for row in &half.rows {
-        add_row(&mut block, row, column)?;
-    }
-    end_box(&mut block, half)?;
-    Ok(block)
-}
-
-/// Adds the title of a program.
-fn add_title(board: &mut Board, program: &Program, size: &Size) -> Result<(), AllocError>
-    requires { board.old.width ≡ size.now.box_width }
-    ensures left { board.new.left ≡ board.old.left }
-    ensures width { board.new.width ≡ board.old.width }
-    ensures start { board.new.start ≡ board.old.start }
-{
-    let title = title_block(*board.frames.allocator(), program, size)?;
-    board.add(FrameKind::Title, TITLE_INSET, title)
-}
-
-/// Adds the way into the mode, in front of each half but the first.
-fn add_gate(board: &mut Board, program: &Program, at: usize, size: &Size) -> Result<(), AllocError>
-    requires { board.old.width ≡ size.now.box_width }
-    ensures left { board.new.left ≡ board.old.left }
-    ensures width { board.new.width ≡ board.old.width }
-    ensures start { board.new.start ≡ board.old.start }
-{
-    if at == 0 {
-        return Ok(());
-    }
-    let gate = gate_block(*board.frames.allocator(), program, size)?;
-    board.add(FrameKind::Gate, GATE_INSET, gate)
-}
-
-/// Adds the box of a half.
-fn add_box(board: &mut Board, half: &Half, size: &Size, column: usize) -> Result<(), AllocError>
-    requires { board.old.width ≡ size.now.box_width }
-    ensures left { board.new.left ≡ board.old.left }
-    ensures width { board.new.width ≡ board.old.width }
-    ensures start { board.new.start ≡ board.old.start }
-{
-    let block = box_block(*board.frames.allocator(), half, size, column)?;
-    board.add(FrameKind::Half(half.kind), BOX_INSET, block)
-}
-
-/// Adds a program: its title, and its boxes with the way between them.
-fn add_program(
-    board: &mut Board,
-    program: &Program,
-    size: &Size,
-    column: usize,
-) -> Result<(), AllocError>
-    requires { board.old.width ≡ size.now.box_width }
-    ensures left { board.new.left ≡ board.old.left }
-    ensures width { board.new.width ≡ board.old.width }
-    ensures start { board.new.start ≡ board.old.start }
-{
-    add_title(board, program, size)?;
+    let mut title = Block::new(alloc, size.title_letters);
+    title.space(7);
+    title.add(
+        name,
+        name.text.len().saturating_add(2),
+        faint(&program.processes),
+    );
+    title.space(5);
+    board.add(FrameKind::Title, TITLE_INSET, title);
     for (at, half) in program.halves.iter().enumerate() {
-        add_gate(board, program, at, size)?;
-        add_box(board, half, size, column)?;
+        if at > 0 {
+            let words = Words {
+                text: &program.enters,
+                tone: Tone::InMode,
+            };
+            let mut gate = Block::new(alloc, size.gate_letters);
+            gate.space(6);
+            gate.add(NO_WORDS, 0, words);
+            gate.space(6);
+            board.add(FrameKind::Gate, GATE_INSET, gate);
+        }
+        let block = box_block(alloc, half, size, column);
+        board.add(FrameKind::Half(half.kind), BOX_INSET, block);
     }
-    Ok(())
 }
 
 /// Adds the programs; names stand in a column.
-pub fn add_programs(
-    board: &mut Board,
-    programs: &[Program],
-    size: &Size,
-    column: usize,
-) -> Result<(), AllocError>
-    requires { board.old.width ≡ size.now.box_width }
-    ensures left { board.new.left ≡ board.old.left }
-    ensures width { board.new.width ≡ board.old.width }
-    ensures start { board.new.start ≡ board.old.start }
+pub fn add_programs(board: &mut Board, programs: &[Program], size: &Size, column: usize)
+    requires { board.old.strip.width ≡ size.now.box_width }
+    ensures { board.new.strip ≡ board.old.strip }
 {
     for (at, program) in programs.iter().enumerate() {
         if at > 0 {
             board.space(30);
         }
-        add_program(board, program, size, column)?;
+        add_program(board, program, size, column);
     }
-    Ok(())
 }

@@ -140,19 +140,17 @@ fn add_rectangle(html: &mut Html, frame: &Frame, class: &'static str, inset: u32
 
 /// Adds what is drawn around the letters of a frame.
 fn add_outline(html: &mut Html, frame: &Frame) {
-    match frame.kind {
-        FrameKind::Title => {}
-        FrameKind::Gate => add_arrow(html, frame),
-        FrameKind::Half(HalfKind::Outside) | FrameKind::Half(HalfKind::Unreached) => add_rectangle(
-            html, frame, "off", 0,
-        ),
-        FrameKind::Half(HalfKind::Inside) => add_rectangle(html, frame, "on", 0),
-        FrameKind::Half(HalfKind::Authority) => {
-            add_rectangle(html, frame, "on", 0);
-            add_rectangle(html, frame, "rim", 4)
-        }
-        FrameKind::Grant => add_rectangle(html, frame, "g", 0),
-        FrameKind::NoGrant => add_rectangle(html, frame, "n", 0),
+    let class = match frame.kind {
+        FrameKind::Title => return,
+        FrameKind::Gate => return add_arrow(html, frame),
+        FrameKind::Half(HalfKind::Outside) | FrameKind::Half(HalfKind::Unreached) => "off",
+        FrameKind::Half(_) => "on",
+        FrameKind::Grant => "g",
+        FrameKind::NoGrant => "n",
+    };
+    add_rectangle(html, frame, class, 0);
+    if let FrameKind::Half(HalfKind::Authority) = frame.kind {
+        add_rectangle(html, frame, "rim", 4)
     }
 }
 
@@ -228,37 +226,18 @@ fn add_layout(html: &mut Html, plan: &Plan<'_>, layout: &Layout, wires: &[Wire])
 }
 
 /// Lays a picture out in a size, and adds it.
-fn add_drawn(
-    html: &mut Html,
-    picture: &Picture,
-    plan: &Plan<'_>,
-    size: &Size,
-) -> Result<(), AllocError> {
-    let layout = lay_out(html.alloc(), picture, plan, size)?;
-    let wires = wires_in(html.alloc(), plan, &layout)?;
-    add_layout(html, plan, &layout, &wires);
-    Ok(())
-}
-
-/// Adds a picture in a size.
 fn add_size(html: &mut Html, picture: &Picture, plan: &Plan<'_>, size: &Size) {
     let class = if size.is_wide { "wide" } else { "narrow" };
     html.fill(
         "<div class=\"x @\" tabindex=\"0\" role=\"group\" aria-label=\"The picture; it scrolls sideways\">",
         &[Markup(class)],
     );
-    if add_drawn(html, picture, plan, size).is_err() {
-        html.fail()
+    let layout = lay_out(html.alloc(), picture, plan, size);
+    match wires_in(html.alloc(), plan, &layout) {
+        Ok(wires) => add_layout(html, plan, &layout, &wires),
+        Err(AllocError) => html.fail(),
     }
     html.markup("</div>\n")
-}
-
-/// Adds a picture, wide and narrow.
-fn add_sizes(html: &mut Html, picture: &Picture) -> Result<(), AllocError> {
-    let plan = plan_of(html.alloc(), picture)?;
-    add_size(html, picture, &plan, &WIDE);
-    add_size(html, picture, &plan, &NARROW);
-    Ok(())
 }
 
 /// Adds who reaches what: the picture, wide and narrow, and the same in words.
@@ -267,8 +246,12 @@ pub(crate) fn add_picture(html: &mut Html, picture: &Picture) {
         "<section id=\"picture\"><h2>Who reaches what</h2><p class=\"h\">Boxes are programs, outside capability mode and in it, with what each may hold there at most. \
         Grey panels are the file tree by grants; lines on the left are pairs of sockets, blue where descriptors pass.</p>\n",
     );
-    if add_sizes(html, picture).is_err() {
-        html.fail()
+    match plan_of(html.alloc(), picture) {
+        Ok(plan) => {
+            add_size(html, picture, &plan, &WIDE);
+            add_size(html, picture, &plan, &NARROW)
+        }
+        Err(AllocError) => html.fail(),
     }
     html.markup("<details><summary>The picture in words</summary><ul id=\"words\">");
     add_sentences(html, "<li>", &picture.words, "</li>\n");

@@ -1,11 +1,12 @@
 //! Frames of the picture: lines of letters below each other, none of them longer than there is room.
 
-ghost use Rattle.std.specs.Prelude.{◌≡◌, ◌+◌, ◌<◌, ◌≤◌, ◌⊎◌, ◌∷◌, ◌++◌, All, IfOk, OnOk, length};
+ghost use Rattle.std.specs.Prelude.{◌≡◌, ◌+◌, ◌<◌, ◌≤◌, ◌⊎◌, ◌∷◌, ◌++◌, All, IfOk, false, length};
 ghost use Rattle.texts.specs.Bytes.{space};
 
 use crate::sentences::Tone;
 use crate::stops::Stops;
 use std::alloc::{AllocError, Global};
+use texts::{Page, say};
 
 /// The height of a line.
 const LINE: u32 = 18;
@@ -32,11 +33,19 @@ pub const NO_WORDS: Words<'static> = Words {
     tone: Tone::Plain,
 };
 
+/// A text that is beside the point.
+pub fn faint(text: &[u8]) -> Words<'_>
+    ensures { result.text.now ≡ text.now }
+{
+    let tone = Tone::Faint;
+    Words { text, tone }
+}
+
 /// A line of letters. Each is printable ASCII.
 #[derive(Drop)]
 pub struct TextLine {
     pub letters: Vec<u8>,
-    /// How many of them are the head, which stands out.
+    /// How many of them are the head, which stands out; more than there are if it fills the line.
     pub head: usize,
     pub head_tone: Tone,
     pub tail_tone: Tone,
@@ -44,7 +53,7 @@ pub struct TextLine {
     pub baseline: u32,
 }
 
-/// Lines below each other.
+/// Lines below each other. Where memory is refused it goes on without what is added, and is short.
 #[derive(Drop)]
 pub struct Block {
     pub lines: Vec<TextLine>,
@@ -53,13 +62,23 @@ pub struct Block {
     pub height: u32,
     /// The heights of its rows' wires.
     pub ports: Stops,
+    /// Whether memory was refused for some of it.
+    pub is_short: bool,
     pub ghost fits: { All (λ line. length line.letters.items ≤ room) lines.items },
     pub ghost inside: { All (λ line. (13 ≤ line.baseline) × (line.baseline + 5 ≤ height)) lines.items },
     pub ghost low: { height ≤ 1_000_255 },
+    pub ghost port: { ports.next ≤ height },
 }
 
-/// How a byte is shown in the picture, where each letter is one byte.
-fn letter(byte: u8) -> u8 {
+/// The letter of a line at a place: of its head, a blank, or from `begin` on of its tail. In the picture each letter is one byte.
+fn letter_at(head: &[u8], begin: usize, tail: &[u8], at: usize) -> u8 {
+    let byte = if at < head.len() {
+        head[at]
+    } else if begin <= at && at - begin < tail.len() {
+        tail[at - begin]
+    } else {
+        b' '
+    };
     if 32 <= byte && byte <= 126 {
         byte
     } else {
@@ -67,139 +86,105 @@ fn letter(byte: u8) -> u8 {
     }
 }
 
-/// Adds the letters of a text, as far as there is room.
-fn add_letters(letters: &mut Vec<u8>, text: &[u8], room: usize) -> Result<(), AllocError>
-    requires { length letters.old.items ≤ room }
-    ensures { length letters.new.items ≤ room }
+/// The letters of a line: a head, blanks, and from `begin` on a tail, as far as there is room.
+fn letters_of(
+    alloc: Global,
+    head: &[u8],
+    begin: usize,
+    tail: &[u8],
+    room: usize,
+) -> Result<Vec<u8>, AllocError>
+    ensures { IfOk result (λ letters. length letters.items ≤ room) }
 {
-    for byte in text {
-        if letters.len() < room {
-            letters.push(letter(*byte))?;
-        }
+    let mut letters = Vec::new(alloc);
+    for at in 0..begin.saturating_add(tail.len()).min(room) {
+        letters.push(letter_at(head, begin, tail, at))?;
     }
-    Ok(())
-}
-
-/// Adds blanks up to a column, as far as there is room.
-fn add_blanks(letters: &mut Vec<u8>, column: usize, room: usize) -> Result<(), AllocError>
-    requires { length letters.old.items ≤ room }
-    ensures { length letters.new.items ≤ room }
-{
-    for _ in letters.len()..column {
-        if letters.len() < room {
-            letters.push(b' ')?;
-        }
-    }
-    Ok(())
+    Ok(letters)
 }
 
 impl Block {
     /// No lines yet.
     pub fn new(alloc: Global, room: usize) -> Block
-        ensures room { result.room ≡ room }
-        ensures port { result.ports.next ≤ result.height }
+        ensures { result.room ≡ room }
     {
         Block {
             lines: Vec::new(alloc),
             room,
             height: 0,
             ports: Stops::new(alloc, 0),
+            is_short: false,
         }
     }
 
     /// Leaves a space below the lines.
     pub fn space(&mut self, height: u8)
-        ensures room { self.new.room ≡ self.old.room }
-        ensures grows { self.old.height ≤ self.new.height }
-        ensures ports { self.new.ports ≡ self.old.ports }
+        ensures { self.new.room ≡ self.old.room }
     {
         if self.height <= MAX_HEIGHT {
             self.height += u32::from(height);
         }
     }
 
-    /// Notes that a wire leaves the row that begins here, and adds the row's first line. A full block notes none.
-    pub fn add_port(
-        &mut self,
-        head: Words<'_>,
-        column: usize,
-        tail: Words<'_>,
-    ) -> Result<(), AllocError>
-        requires { self.old.ports.next ≤ self.old.height }
-        ensures room { self.new.room ≡ self.old.room }
-        ensures port { self.new.ports.next ≤ self.new.height }
+    /// Notes that a wire leaves the row that began at a height, if the row has a line. A full block has none of it.
+    pub fn add_port(&mut self, top: u32)
+        ensures { self.new.room ≡ self.old.room }
     {
-        if self.height > MAX_HEIGHT {
-            return Ok(());
+        if self.ports.next <= top && top.saturating_add(LINE) <= self.height {
+            self.is_short |= self.ports.push(top + PORT).is_err();
         }
-        let top = self.height;
-        self.add_broken(head, column, tail)?;
-        self.ports.push(top + PORT)
     }
 
     /// Adds a line: a head, and behind it, from a column on, a tail. What there is no room for is left out.
-    pub fn add(&mut self, head: Words<'_>, column: usize, tail: Words<'_>) -> Result<(), AllocError>
-        ensures line { self.old.height ≤ 1_000_000 → OnOk result (self.old.height + 18 ≤ self.new.height) }
-        ensures room { self.new.room ≡ self.old.room }
-        ensures grows { self.old.height ≤ self.new.height }
-        ensures ports { self.new.ports ≡ self.old.ports }
+    pub fn add(&mut self, head: Words<'_>, column: usize, tail: Words<'_>)
+        ensures { self.new.room ≡ self.old.room }
     {
         if self.height > MAX_HEIGHT {
-            return Ok(());
+            return;
         }
-        let mut letters = Vec::new(*self.lines.allocator());
-        add_letters(&mut letters, head.text, self.room)?;
-        if !tail.text.is_empty() {
-            add_blanks(&mut letters, column, self.room)?;
+        let begin = if tail.text.is_empty() {
+            head.text.len()
+        } else {
+            head.text.len().max(column)
+        };
+        let alloc = *self.lines.allocator();
+        match letters_of(alloc, head.text, begin, tail.text, self.room) {
+            Ok(letters) => {
+                let line = TextLine {
+                    letters,
+                    head: begin,
+                    head_tone: head.tone,
+                    tail_tone: tail.tone,
+                    baseline: self.height + BASELINE,
+                };
+                self.is_short |= self.lines.push(line).is_err();
+            }
+            Err(AllocError) => self.is_short = true,
         }
-        let head_length = letters.len();
-        add_letters(&mut letters, tail.text, self.room)?;
-        self.lines.push(TextLine {
-            letters,
-            head: head_length,
-            head_tone: head.tone,
-            tail_tone: tail.tone,
-            baseline: self.height + BASELINE,
-        })?;
         self.height += LINE;
-        Ok(())
+    }
+
+    /// Adds a line with a tail that was put together.
+    pub fn add_page(&mut self, head: Words<'_>, column: usize, tail: &Page, tone: Tone)
+        ensures { self.new.room ≡ self.old.room }
+    {
+        self.is_short |= tail.finish().is_err();
+        let text = tail.as_bytes();
+        self.add(head, column, Words { text, tone })
     }
 
     /// Adds a text from a column on, broken between words, with a head before its first line.
-    pub fn add_broken(
-        &mut self,
-        head: Words<'_>,
-        column: usize,
-        tail: Words<'_>,
-    ) -> Result<(), AllocError>
-        ensures line { self.old.height ≤ 1_000_000 → OnOk result (self.old.height + 18 ≤ self.new.height) }
-        ensures room { self.new.room ≡ self.old.room }
-        ensures grows { self.old.height ≤ self.new.height }
-        ensures ports { self.new.ports ≡ self.old.ports }
+    pub fn add_broken(&mut self, head: Words<'_>, column: usize, tail: Words<'_>)
+        ensures { self.new.room ≡ self.old.room }
     {
-        let room = self.room.saturating_sub(column).max(1);
-        let (front, mut rest) = split_line(tail.text, room);
-        self.add(
-            head,
-            column,
-            Words {
-                text: front,
-                tone: tail.tone,
-            },
-        )?;
+        let (room, tone) = (self.room.saturating_sub(column).max(1), tail.tone);
+        let (text, mut rest) = split_line(tail.text, room);
+        self.add(head, column, Words { text, tone });
         while !rest.is_empty() {
-            let (front, back) = split_line(rest, room);
-            self.add(
-                NO_WORDS,
-                column,
-                Words {
-                    text: front,
-                    tone: tail.tone,
-                },
-            )?;
+            let (text, back) = split_line(rest, room);
+            self.add(NO_WORDS, column, Words { text, tone });
             rest = back;
         }
-        Ok(())
     }
 }
 
@@ -248,26 +233,17 @@ pub(crate) fn count_words(text: &[u8]) -> u32 {
     count
 }
 
-/// Adds the letters of a path, as far as there is room: of a longer one the middle is left out.
-fn add_shortened(short: &mut Vec<u8>, path: &[u8], room: usize) -> Result<(), AllocError>
-    requires { length short.old.items ≤ room }
-    ensures { length short.new.items ≤ room }
+/// A path of at most so many letters: of a longer one the middle is left out.
+pub fn shortened(alloc: Global, path: &[u8], room: usize) -> Page
+    ensures { result.is_short ≡ false → length result.bytes.items ≤ room }
 {
+    let mut short = Page::new(alloc);
     if path.len() <= room || room < 3 {
-        return add_letters(short, path, room);
+        short.bytes(&path[..path.len().min(room)]);
+        return short;
     }
     let front = (room - 3) / 2;
     let back = room - 3 - front;
-    add_letters(short, &path[..front], room)?;
-    add_letters(short, b"...", room)?;
-    add_letters(short, &path[path.len() - back..], room)
-}
-
-/// A path of at most so many letters: of a longer one the middle is left out.
-pub fn shortened(alloc: Global, path: &[u8], room: usize) -> Result<Vec<u8>, AllocError>
-    ensures { IfOk result (λ short. length short.items ≤ room) }
-{
-    let mut short = Vec::new(alloc);
-    add_shortened(&mut short, path, room)?;
-    Ok(short)
+    say!(&mut short; &path[..front], "...", &path[path.len() - back..]);
+    short
 }

@@ -4,7 +4,7 @@ use crate::html::Html;
 use crate::html::Part::{Markup, Shown};
 use crate::sentences::{add_sentence, add_sentences};
 use crate::sheets::{Column, Header, Item, Sheet, Verdict};
-use crate::styles::add_style;
+use crate::styles::{LISTING_STYLE, NARROW_STYLE, PICTURE_STYLE, WORDS_STYLE};
 
 impl Verdict {
     /// The class of its word.
@@ -25,7 +25,10 @@ pub(crate) fn add_head(html: &mut Html, header: &Header) {
         <meta http-equiv=\"Content-Security-Policy\" content=\"default-src 'none'; style-src 'unsafe-inline'\"><title>Capcheck: @, @</title>\n<style>\n",
         &parts,
     );
-    add_style(html);
+    html.markup(WORDS_STYLE);
+    html.markup(PICTURE_STYLE);
+    html.markup(LISTING_STYLE);
+    html.markup(NARROW_STYLE);
     html.markup("</style></head><body>\n")
 }
 

@@ -4,15 +4,8 @@ ghost use Rattle.std.specs.Prelude.{◌≡◌, ◌<◌, ◌≤◌, All, false, l
 ghost use Rattle.std.specs.List.{AllPairs};
 
 use crate::pictures::{Panel, Target};
+use crate::wiring::class_of;
 use std::alloc::{AllocError, Global};
-
-/// The rows of a class of pairs, counted from the top of the picture.
-#[derive(Clone, Copy)]
-struct Span {
-    class: usize,
-    first: usize,
-    last: usize,
-}
 
 /// A class of pairs with its lane. Rows are counted from the top of the picture.
 #[derive(Clone, Copy)]
@@ -36,31 +29,17 @@ pub struct Classes {
     pub ghost least: { lanes ≤ length items.items },
 }
 
-/// Notes that a row is of a class.
-fn note_class(spans: &mut Vec<Span>, class: usize, row: usize) -> Result<(), AllocError> {
-    for span in spans.iter_mut() {
-        if span.class == class {
-            span.last = row;
-            return Ok(());
-        }
-    }
-    spans.push(Span {
-        class,
-        first: row,
-        last: row,
-    })?;
-    Ok(())
-}
-
-/// The classes by their first rows, each with that and its last one.
-fn spans_of(alloc: Global, nets: &[Target]) -> Result<Vec<Span>, AllocError> {
-    let mut spans = Vec::new(alloc);
+/// The last row of a class.
+fn last_row(nets: &[Target], class: usize) -> usize {
+    let mut last = 0;
     for (at, net) in nets.iter().enumerate() {
-        if let Target::Pair(class) = net {
-            note_class(&mut spans, *class, at)?;
+        if let Target::Pair(found) = net {
+            if *found == class {
+                last = at;
+            }
         }
     }
-    Ok(spans)
+    last
 }
 
 /// Whether some of these classes takes a lane from a row on.
@@ -99,12 +78,12 @@ impl Classes {
     }
 
     /// Adds a class behind the others, in the least lane that is free from its first row on.
-    fn push(&mut self, span: Span) -> Result<(), AllocError> {
-        let lane = free_lane(&self.items, self.lanes, span.first);
+    fn push(&mut self, class: usize, first: usize, last: usize) -> Result<(), AllocError> {
+        let lane = free_lane(&self.items, self.lanes, first);
         self.items.push(ClassLane {
-            class: span.class,
-            first: span.first,
-            last: span.last,
+            class,
+            first,
+            last,
             lane,
         })?;
         self.lanes = self.lanes.max(lane + 1);
@@ -113,8 +92,12 @@ impl Classes {
 
     /// Adds the classes of the rows with their lanes.
     pub(crate) fn add(&mut self, nets: &[Target]) -> Result<(), AllocError> {
-        for span in &spans_of(*self.items.allocator(), nets)? {
-            self.push(*span)?;
+        for (at, net) in nets.iter().enumerate() {
+            if let Target::Pair(class) = *net {
+                if class_of(&self.items, class).is_none() {
+                    self.push(class, at, last_row(nets, class))?;
+                }
+            }
         }
         Ok(())
     }

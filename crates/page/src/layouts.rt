@@ -1,16 +1,15 @@
 //! The picture laid out: where everything stands.
 
-ghost use Rattle.std.specs.Prelude.{◌≡◌, ◌+◌, ◌≤◌, false, true, All, IfOk};
+ghost use Rattle.std.specs.Prelude.{◌≡◌, ◌+◌, ◌≤◌, false, true, IfOk};
 ghost use Rattle.page.specs.FrameViews.{LettersFit, LieApart};
-ghost use Rattle.page.specs.WireViews.{ArrivesFree, KeepAllApart};
+ghost use Rattle.page.specs.WireViews.{ArriveFree, KeepAllApart};
 
-use crate::arrivals::Arrivals;
-use crate::board::{Board, Size, add_programs};
+use crate::board::{Board, Size, Strip, add_programs};
 use crate::lanes::{Classes, Placed, add_placed};
 use crate::panels::add_panels;
-use crate::pictures::{Panel, Picture, Row, Target};
-use crate::stops::spread;
-use crate::wires::{Lanes, Ways, Wire};
+use crate::pictures::{Half, Picture, Row, Target};
+use crate::stops::Stops;
+use crate::wires::{Lanes, Spread, Ways, Wire};
 use crate::wiring::wires_of;
 use std::alloc::{AllocError, Global};
 
@@ -44,27 +43,33 @@ pub struct Layout {
     pub width: u32,
     pub boxes: Board,
     pub panels: Board,
-    pub arrivals: Arrivals,
+    /// The heights at which wires arrive at the panels.
+    pub arrivals: Stops,
     pub lanes: Lanes,
 }
 
-/// Adds the rows of a picture, from the top on, and what they lead to.
-fn add_rows<'p>(
-    rows: &mut Vec<&'p Row>,
-    nets: &mut Vec<Target>,
-    picture: &'p Picture,
-) -> Result<(), AllocError> {
-    for program in &picture.programs {
-        for half in &program.halves {
-            for row in &half.rows {
-                if rows.len() < MAX_ROWS {
-                    rows.push(row)?;
-                    nets.push(row.target)?;
-                }
+impl<'p> Plan<'p> {
+    /// Adds the rows of a box, and what they lead to.
+    fn add_rows(&mut self, half: &'p Half) -> Result<(), AllocError> {
+        for row in &half.rows {
+            if self.rows.len() < MAX_ROWS {
+                self.rows.push(row)?;
+                self.nets.push(row.target)?;
             }
         }
+        Ok(())
     }
-    Ok(())
+
+    /// Adds the rows of a picture, from the top on, and what follows from what they lead to.
+    fn add(&mut self, picture: &'p Picture) -> Result<(), AllocError> {
+        for program in &picture.programs {
+            for half in &program.halves {
+                self.add_rows(half)?;
+            }
+        }
+        self.classes.add(&self.nets)?;
+        add_placed(&mut self.placed, &self.nets, &picture.panels)
+    }
 }
 
 /// How many letters the column of names takes.
@@ -97,107 +102,85 @@ fn steps(size: &Size, pairs: usize, panels: usize) -> (u32, u32)
     }
 }
 
-/// Where the first lane of pairs stands, or the boxes begin if there is none.
-fn first_lane(pairs: usize) -> u32
-    ensures { result ≤ 8 }
-{
-    if pairs == 0 { 0 } else { FIRST_LANE }
-}
-
 /// Where lanes stand, and where what is at the right of them begins.
-fn lanes_of(
-    alloc: Global,
-    size: &Size,
-    pairs: usize,
-    panels: usize,
-) -> Result<(Lanes, u32), AllocError>
+fn lanes_of(size: &Size, pairs: usize, panels: usize) -> (Lanes, u32)
     requires pairs { pairs ≤ 4096 }
     requires panels { panels ≤ 4096 }
-    ensures right { IfOk result (λ r. r.0.right ≡ r.0.left + size.now.box_width) }
-    ensures beside { IfOk result (λ r. r.0.right ≤ r.1) }
-    ensures low { IfOk result (λ r. r.1 ≤ 5_000_000) }
+    ensures right { result.0.right ≡ result.0.left + size.now.box_width }
+    ensures beside { result.0.right ≤ result.1 }
+    ensures low { result.1 ≤ 5_000_000 }
 {
-    let (pair_step, panel_step) = steps(size, pairs, panels);
-    let (pairs_at, pairs_end) = spread(alloc, first_lane(pairs), pair_step, pairs)?;
-    let left = pairs_end + 2;
+    let steps = steps(size, pairs, panels);
+    let pairs = Spread {
+        start: if pairs == 0 { 0 } else { FIRST_LANE },
+        step: steps.0,
+        count: pairs,
+    };
+    let left = pairs.at(pairs.count) + 2;
     let right = left + size.box_width;
-    let (panels_at, end) = spread(alloc, right + 18, panel_step, panels)?;
-    let beside = end + 6;
+    let panels = Spread {
+        start: right + 18,
+        step: steps.1,
+        count: panels,
+    };
+    let beside = panels.at(panels.count) + 6;
     let lanes = Lanes {
         left,
         right,
-        pairs: pairs_at,
-        panels: panels_at,
+        pairs,
+        panels,
         is_wide: size.is_wide,
         arrive: if size.is_wide { beside } else { right },
     };
-    Ok((lanes, beside))
+    (lanes, beside)
 }
 
-/// The left edge of the panels: beside the boxes on a wide picture, below them on a narrow one.
-fn left_of_panels(size: &Size, lanes: &Lanes, beside: u32) -> u32
-    ensures { size.now.is_wide ≡ true → result ≡ beside }
+/// The strip of the panels: beside the boxes on a wide picture, below them on a narrow one.
+fn panels_strip(size: &Size, lanes: &Lanes, beside: u32, boxes: &Board) -> Strip
+    requires { boxes.now.strip.start ≡ 0 }
+    ensures width { result.width ≡ size.now.panel_width }
+    ensures low { result.start ≤ 1_500_000_000 }
+    ensures beside { size.now.is_wide ≡ true → result.left ≡ beside }
+    ensures below { size.now.is_wide ≡ false → boxes.now.below ≤ result.start }
 {
-    if size.is_wide { beside } else { lanes.left }
-}
-
-/// The height at which a column of panels begins.
-fn panels_top(size: &Size, boxes: &Board) -> u32
-    requires { boxes.now.start ≡ 0 }
-    ensures low { result ≤ 1_500_000_000 }
-    ensures below { size.now.is_wide ≡ false → boxes.now.below ≤ result }
-{
-    if size.is_wide { 18 } else { boxes.below + 36 }
-}
-
-/// The classes of rows with their lanes, and the panels in their order.
-fn places_of(
-    alloc: Global,
-    nets: &[Target],
-    panels: &[Panel],
-) -> Result<(Classes, Vec<Placed>), AllocError> {
-    let (mut classes, mut placed) = (Classes::none(alloc), Vec::new(alloc));
-    classes.add(nets)?;
-    add_placed(&mut placed, nets, panels)?;
-    Ok((classes, placed))
+    let width = size.panel_width;
+    if size.is_wide {
+        let (left, start) = (beside, 18);
+        return Strip { left, width, start };
+    }
+    let (left, start) = (lanes.left, boxes.below + 36);
+    Strip { left, width, start }
 }
 
 /// The rows of a picture, and what follows from what they lead to.
 pub(crate) fn plan_of<'p>(alloc: Global, picture: &'p Picture) -> Result<Plan<'p>, AllocError> {
-    let (mut rows, mut nets) = (Vec::new(alloc), Vec::new(alloc));
-    add_rows(&mut rows, &mut nets, picture)?;
-    let (classes, placed) = places_of(alloc, &nets, &picture.panels)?;
-    Ok(Plan {
-        rows,
-        nets,
-        classes,
-        placed,
-    })
+    let mut plan = Plan {
+        rows: Vec::new(alloc),
+        nets: Vec::new(alloc),
+        classes: Classes::none(alloc),
+        placed: Vec::new(alloc),
+    };
+    plan.add(picture)?;
+    Ok(plan)
 }
 
-/// Lays boxes and panels out: they lie apart, and letters inside them; and at the heights where wires arrive at panels there is no row of another panel.
-pub fn lay_out(
-    alloc: Global,
-    picture: &Picture,
-    plan: &Plan<'_>,
-    size: &Size,
-) -> Result<Layout, AllocError>
-    ensures apart { IfOk result (λ l. LieApart l.boxes.frames.items l.panels.frames.items) }
-    ensures boxes_fit { IfOk result (λ l. LettersFit l.boxes.frames.items) }
-    ensures panels_fit { IfOk result (λ l. LettersFit l.panels.frames.items) }
-    ensures free { IfOk result (λ l. All (λ a. ArrivesFree plan.now.nets.items l.boxes.ports.items.items a.panel a.height) l.arrivals.items.items) }
+/// Lays a picture out: boxes and panels lie apart, and letters inside them; and at the heights where wires arrive at panels there is no row of another panel.
+pub fn lay_out(alloc: Global, picture: &Picture, plan: &Plan<'_>, size: &Size) -> Layout
+    ensures apart { LieApart result.boxes.frames.items result.panels.frames.items }
+    ensures boxes_fit { LettersFit result.boxes.frames.items }
+    ensures panels_fit { LettersFit result.panels.frames.items }
+    ensures free { ArriveFree plan.now.nets.items result.boxes.ports.items.items plan.now.placed.items result.arrivals.items.items }
 {
     let pairs = plan.classes.lanes.min(MAX_ROWS);
-    let (lanes, beside) = lanes_of(alloc, size, pairs, plan.placed.len().min(MAX_PANELS))?;
-    let mut boxes = Board::new(alloc, lanes.left, size.box_width, 0);
-    add_programs(&mut boxes, &picture.programs, size, name_column(&plan.rows))?;
-    let panels_left = left_of_panels(size, &lanes, beside);
-    let mut panels = Board::new(
-        alloc,
-        panels_left,
-        size.panel_width,
-        panels_top(size, &boxes),
-    );
+    let (lanes, beside) = lanes_of(size, pairs, plan.placed.len().min(MAX_PANELS));
+    let strip = Strip {
+        left: lanes.left,
+        width: size.box_width,
+        start: 0,
+    };
+    let mut boxes = Board::new(alloc, strip);
+    add_programs(&mut boxes, &picture.programs, size, name_column(&plan.rows));
+    let mut panels = Board::new(alloc, panels_strip(size, &lanes, beside, &boxes));
     let arrivals = add_panels(
         &mut panels,
         &picture.panels,
@@ -205,25 +188,29 @@ pub fn lay_out(
         size,
         &plan.nets,
         &boxes.ports,
-    )?;
+    );
     let end = if size.is_wide { size.panel_width } else { 0 };
-    Ok(Layout {
+    Layout {
         width: beside.saturating_add(end).saturating_add(2),
         boxes,
         panels,
         arrivals,
         lanes,
-    })
+    }
 }
 
-/// The wires of a picture that is laid out, of which none lies on one of another net.
+/// The wires of a picture that is laid out, of which none lies on one of another net. If memory was refused for some of it there are none.
 pub fn wires_in(alloc: Global, plan: &Plan<'_>, layout: &Layout) -> Result<Vec<Wire>, AllocError>
-    requires { All (λ a. ArrivesFree plan.now.nets.items layout.now.boxes.ports.items.items a.panel a.height) layout.now.arrivals.items.items }
+    requires { ArriveFree plan.now.nets.items layout.now.boxes.ports.items.items plan.now.placed.items layout.now.arrivals.items.items }
     ensures { IfOk result (λ wires. KeepAllApart wires.items) }
 {
+    if layout.boxes.is_short || layout.panels.is_short {
+        return Err(AllocError);
+    }
     let ways = Ways {
         nets: &plan.nets,
         rows: &layout.boxes.ports,
+        placed: &plan.placed,
         arrivals: &layout.arrivals,
         classes: &plan.classes,
         lanes: &layout.lanes,

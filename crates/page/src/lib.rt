@@ -2,7 +2,6 @@
 //! comes as a `Sheet`, and only where it stands is decided here.
 #![tactic(auto)]
 
-pub mod arrivals;
 pub mod board;
 pub mod drawing;
 pub mod escaping;

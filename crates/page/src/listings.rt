@@ -141,11 +141,11 @@ fn add_cells(html: &mut Html, listing: &Listing, line: &Line) {
             &[Number(line.number)],
         ),
     }
-    for state in &line.states {
-        add_state(html, *state);
-    }
-    for _ in line.states.len()..listing.numbers.len() {
-        html.markup("<td class=\"l\"></td>")
+    for at in 0..listing.numbers.len() {
+        match line.states.get(at) {
+            Some(state) => add_state(html, *state),
+            None => html.markup("<td class=\"l\"></td>"),
+        }
     }
 }
 

@@ -1,40 +1,27 @@
 //! The rights in the mode, a row for each program and grant, a column for each right.
 
 use crate::html::Html;
-use crate::html::Part::{Markup, Number, Shown};
+use crate::html::Part::{Markup, Shown};
 use crate::sentences::{Tone, add_sentences};
 use crate::sheets::PointGroup;
 
 /// How many rights there are.
 pub const RIGHTS: usize = 14;
 
-/// The rights by what they are for.
-const GROUPS: [(&str, u32); 6] = [
-    ("look", 2),
-    ("read", 1),
-    ("write", 2),
-    ("create", 3),
-    ("remove", 2),
-    ("other", 4),
-];
-
-/// The rights in the order of the groups.
-pub const NAMES: [&str; RIGHTS] = [
-    "FSTAT",
-    "FSTATAT",
-    "READ",
-    "WRITE",
-    "FTRUNCATE",
-    "CREATE",
-    "MKDIRAT",
-    "RENAMEAT_TARGET",
-    "UNLINKAT",
-    "RENAMEAT_SOURCE",
-    "LOOKUP",
-    "SEEK",
-    "FSYNC",
-    "FCNTL",
-];
+/// The heads of the columns: the rights by what they are for, and below that each in the order of a row's cells.
+const HEADS: &str = "\
+    <thead><tr><td></td>\
+    <th class=\"o\" colspan=\"2\" scope=\"colgroup\"><b>look</b></th><th class=\"o\" colspan=\"1\" scope=\"colgroup\"><b>read</b></th>\
+    <th class=\"o\" colspan=\"2\" scope=\"colgroup\"><b>write</b></th><th class=\"o\" colspan=\"3\" scope=\"colgroup\"><b>create</b></th>\
+    <th class=\"o\" colspan=\"2\" scope=\"colgroup\"><b>remove</b></th><th class=\"o\" colspan=\"4\" scope=\"colgroup\"><b>other</b></th>\
+    <td></td></tr><tr><td></td>\
+    <th scope=\"col\"><span>FSTAT</span></th><th scope=\"col\"><span>FSTATAT</span></th><th scope=\"col\"><span>READ</span></th>\
+    <th scope=\"col\"><span>WRITE</span></th><th scope=\"col\"><span>FTRUNCATE</span></th><th scope=\"col\"><span>CREATE</span></th>\
+    <th scope=\"col\"><span>MKDIRAT</span></th><th scope=\"col\"><span>RENAMEAT_TARGET</span></th><th scope=\"col\"><span>UNLINKAT</span></th>\
+    <th scope=\"col\"><span>RENAMEAT_SOURCE</span></th><th scope=\"col\"><span>LOOKUP</span></th><th scope=\"col\"><span>SEEK</span></th>\
+    <th scope=\"col\"><span>FSYNC</span></th><th scope=\"col\"><span>FCNTL</span></th>\
+    <td></td></tr></thead>\
+    ";
 
 /// Whether a right is held, and how.
 #[derive(Clone, Copy, PartialEq, Eq)]
@@ -64,7 +51,7 @@ pub struct Cell {
 pub struct MatrixRow {
     pub grant: Vec<u8>,
     pub path: Vec<u8>,
-    /// The rights in the order of `NAMES`.
+    /// The rights in the order of the columns.
     pub cells: [Cell; RIGHTS],
     /// How many are used, in words.
     pub count: Vec<u8>,
@@ -84,23 +71,6 @@ pub struct Matrix {
     pub groups: Vec<MatrixGroup>,
     /// What is held point by point.
     pub points: Vec<PointGroup>,
-}
-
-/// Adds the heads of the columns.
-fn add_heads(html: &mut Html) {
-    html.markup("<thead><tr><td></td>");
-    for (name, columns) in &GROUPS {
-        let parts = [Number(*columns), Markup(*name)];
-        html.fill(
-            "<th class=\"o\" colspan=\"@\" scope=\"colgroup\"><b>@</b></th>",
-            &parts,
-        )
-    }
-    html.markup("<td></td></tr><tr><td></td>");
-    for name in &NAMES {
-        html.fill("<th scope=\"col\"><span>@</span></th>", &[Markup(*name)])
-    }
-    html.markup("<td></td></tr></thead>")
 }
 
 /// Adds a right of a row.
@@ -227,7 +197,7 @@ pub(crate) fn add_matrix(html: &mut Html, matrix: &Matrix) {
         at any point in the mode, sorted by what they are for.</p>\n\
         <div class=\"x\" tabindex=\"0\" role=\"group\" aria-label=\"Rights by program and grant\"><table class=\"mx\">",
     );
-    add_heads(html);
+    html.markup(HEADS);
     for group in &matrix.groups {
         add_group(html, group);
     }

@@ -1,93 +1,64 @@
 //! Where the panels of the file tree stand, and the heights at which wires arrive at them.
 
-ghost use Rattle.std.specs.Prelude.{◌≡◌, ◌+◌, ◌≤◌, All, IfOk, IfSome, OnOk, false, true};
-ghost use Rattle.page.specs.WireViews.{ArrivesFree, StandsAt, LeadsTo};
+ghost use Rattle.std.specs.Prelude.{◌≡◌, ◌+◌, ◌≤◌, false, true};
+ghost use Rattle.page.specs.WireViews.{ArriveFree, ArrivesFree, LeadsTo, StandsAt};
 
-use crate::arrivals::Arrivals;
 use crate::board::{BOX_INSET, Board, FrameKind, Size};
-use crate::frames::{Block, NO_WORDS, Words, count_words, shortened, split_line};
+use crate::frames::{Block, NO_WORDS, Words, count_words, faint, shortened, split_line};
 use crate::lanes::Placed;
 use crate::pictures::{Panel, Target};
 use crate::sentences::Tone;
 use crate::stops::Stops;
-use std::alloc::{AllocError, Global};
+use std::alloc::Global;
 use texts::{Page, say};
 
 /// How many lines the nodes of a panel take.
 const NODE_LINES: usize = 3;
 
-/// Adds how many more nodes there are.
-fn add_count(block: &mut Block, rest: &[u8]) -> Result<(), AllocError>
-    ensures room { block.new.room ≡ block.old.room }
-    ensures grows { block.old.height ≤ block.new.height }
-    ensures ports { block.new.ports ≡ block.old.ports }
-{
-    let mut more = Page::new(*block.lines.allocator());
-    say!(&mut more; "and ", count_words(rest), " more");
-    let words = Words {
-        text: more.finish()?,
-        tone: Tone::Faint,
-    };
-    block.add(NO_WORDS, 0, words)
-}
-
 /// Adds the nodes of a panel: up to three lines, and in the last how many more there are.
-fn add_nodes(block: &mut Block, nodes: &[u8]) -> Result<(), AllocError>
-    ensures room { block.new.room ≡ block.old.room }
-    ensures grows { block.old.height ≤ block.new.height }
-    ensures ports { block.new.ports ≡ block.old.ports }
+fn add_nodes(block: &mut Block, nodes: &[u8])
+    ensures { block.new.room ≡ block.old.room }
 {
+    let room = block.room.max(1);
     let mut rest = nodes;
-    for at in 1..=NODE_LINES {
-        if rest.is_empty() {
-            return Ok(());
+    for _line in 1..NODE_LINES {
+        if !rest.is_empty() {
+            let (front, back) = split_line(rest, room);
+            block.add(NO_WORDS, 0, faint(front));
+            rest = back;
         }
-        let (front, back) = split_line(rest, block.room.max(1));
-        if at == NODE_LINES && !back.is_empty() {
-            return add_count(block, rest);
-        }
-        let words = Words {
-            text: front,
-            tone: Tone::Faint,
-        };
-        block.add(NO_WORDS, 0, words)?;
-        rest = back;
     }
-    Ok(())
+    let (front, back) = split_line(rest, room);
+    if !back.is_empty() {
+        let mut more = Page::new(*block.lines.allocator());
+        say!(&mut more; "and ", count_words(rest), " more");
+        block.add_page(NO_WORDS, 0, &more, Tone::Faint)
+    } else if !front.is_empty() {
+        block.add(NO_WORDS, 0, faint(front))
+    }
 }
 
 /// What stands on a panel.
-fn panel_block(alloc: Global, panel: &Panel, size: &Size) -> Result<Block, AllocError>
-    ensures room { IfOk result (λ b. b.room ≡ size.now.panel_letters) }
-    ensures port { IfOk result (λ b. b.ports.next ≤ b.height) }
+fn panel_block(alloc: Global, panel: &Panel, size: &Size) -> Block
+    ensures { result.room ≡ size.now.panel_letters }
 {
-    let mut block = Block::new(alloc, size.panel_letters);
+    let tone = Tone::Plain;
     let behind = panel.name.len().saturating_add(2);
-    let path = shortened(
-        alloc,
-        &panel.path,
-        size.panel_letters.saturating_sub(behind),
-    )?;
+    let room = size.panel_letters.saturating_sub(behind);
     let name = Words {
         text: &panel.name,
-        tone: Tone::Plain,
+        tone,
     };
+    let mut block = Block::new(alloc, size.panel_letters);
     block.space(9);
-    let words = Words {
-        text: &path,
-        tone: Tone::Plain,
-    };
-    block.add(name, behind, words)?;
+    block.add_page(name, behind, &shortened(alloc, &panel.path, room), tone);
     if panel.is_grant {
-        let allows = Words {
-            text: &panel.allows,
-            tone: Tone::Plain,
-        };
-        block.add_broken(NO_WORDS, 0, allows)?;
+        let text = &panel.allows;
+        block.add_broken(NO_WORDS, 0, Words { text, tone });
     }
-    add_nodes(&mut block, &panel.nodes)?;
+    add_nodes(&mut block, &panel.nodes);
     block.space(9);
-    Ok(block)
+    block
 }
 
 /// Where a panel's wire arrives, below its top.
@@ -150,25 +121,6 @@ fn wanted_top(place: &Placed, rows: &Stops, size: &Size) -> u32
     }
 }
 
-/// Adds a panel, with a space below it.
-fn add_panel(board: &mut Board, panel: &Panel, size: &Size) -> Result<(), AllocError>
-    requires { board.old.width ≡ size.now.panel_width }
-    ensures left { board.new.left ≡ board.old.left }
-    ensures width { board.new.width ≡ board.old.width }
-    ensures start { board.new.start ≡ board.old.start }
-    ensures more { OnOk result (board.new.below ≤ 1_000_000_000 → board.old.below + 12 ≤ board.new.below) }
-{
-    let kind = if panel.is_grant {
-        FrameKind::Grant
-    } else {
-        FrameKind::NoGrant
-    };
-    let block = panel_block(*board.frames.allocator(), panel, size)?;
-    board.add(kind, BOX_INSET, block)?;
-    board.space(12);
-    Ok(())
-}
-
 /// Adds the panels in their order; on a wide picture each at the height of its first row if there is room. Gives the heights of their wires. A board that is too high
 /// takes no more of them.
 pub fn add_panels(
@@ -178,32 +130,34 @@ pub fn add_panels(
     size: &Size,
     nets: &[Target],
     rows: &Stops,
-) -> Result<Arrivals, AllocError>
-    requires { board.old.width ≡ size.now.panel_width }
-    ensures left { board.new.left ≡ board.old.left }
-    ensures width { board.new.width ≡ board.old.width }
-    ensures start { board.new.start ≡ board.old.start }
-    ensures free { IfOk result (λ a. All (λ b. ArrivesFree nets.now rows.now.items.items b.panel b.height) a.items.items) }
+) -> Stops
+    requires { board.old.strip.width ≡ size.now.panel_width }
+    ensures strip { board.new.strip ≡ board.old.strip }
+    ensures free { ArriveFree nets.now rows.now.items.items placed.now result.items.items }
 {
     let alloc = *board.frames.allocator();
-    let mut arrivals = Arrivals::new(alloc);
+    let mut arrivals = Stops::new(alloc, 0);
     for place in placed {
         let Some(panel) = panels.get(place.panel) else {
-            return Ok(arrivals);
+            return arrivals;
         };
         if board.below > MAX_PANELS {
-            return Ok(arrivals);
+            return arrivals;
         }
-        let top = panel_top(
-            nets,
-            rows,
-            place.panel,
-            board.below,
-            wanted_top(place, rows, size),
-        );
+        let wanted = wanted_top(place, rows, size);
+        let top = panel_top(nets, rows, place.panel, board.below, wanted);
+        if arrivals.push(top + PANEL_PORT).is_err() {
+            board.is_short = true;
+            return arrivals;
+        }
+        let kind = if panel.is_grant {
+            FrameKind::Grant
+        } else {
+            FrameKind::NoGrant
+        };
         board.move_to(top);
-        arrivals.push(place.panel, top + PANEL_PORT)?;
-        add_panel(board, panel, size)?;
+        board.add(kind, BOX_INSET, panel_block(alloc, panel, size));
+        board.space(12);
     }
-    Ok(arrivals)
+    arrivals
 }

@@ -71,30 +71,30 @@ pub enum Piece {
 
 /// Adds a part of a sentence.
 fn add_piece(html: &mut Html, piece: &Piece) {
-    match piece {
-        Piece::Plain(words) => html.show("@", words),
-        Piece::Code(words) => html.show("<code>@</code>", words),
-        Piece::Strong(words) => html.show("<b>@</b>", words),
-        Piece::Tag(words) => html.show("<span class=\"tag warn\">@</span>", words),
+    let (template, words) = match piece {
+        Piece::Plain(words) => ("@", words),
+        Piece::Code(words) => ("<code>@</code>", words),
+        Piece::Strong(words) => ("<b>@</b>", words),
+        Piece::Tag(words) => ("<span class=\"tag warn\">@</span>", words),
         Piece::Link(place, words) => {
             let (program, point) = (Shown(place.program.as_bytes()), u32::from(place.point));
-            html.fill(
+            return html.fill(
                 "<a href=\"#@-@\">@</a>",
                 &[program, Number(point), Shown(words)],
-            )
+            );
         }
-        Piece::Rule(rule) => {
-            let number = Number(u32::from(*rule));
-            html.fill("<a href=\"#K@\"><b>K@</b></a>", &[number, number])
-        }
+        Piece::Rule(rule) => return add_rule(html, "<a href=\"#K@\"><b>K@</b></a>", *rule),
         Piece::RuleTag(rule) => {
-            let number = Number(u32::from(*rule));
-            html.fill(
-                "<a class=\"tag bad\" href=\"#K@\">K@</a>",
-                &[number, number],
-            )
+            return add_rule(html, "<a class=\"tag bad\" href=\"#K@\">K@</a>", *rule);
         }
-    }
+    };
+    html.show(template, words)
+}
+
+/// Adds a link to the words of a rule.
+fn add_rule(html: &mut Html, template: &'static str, rule: u8) {
+    let number = Number(u32::from(rule));
+    html.fill(template, &[number, number])
 }
 
 /// Adds a sentence, part by part.

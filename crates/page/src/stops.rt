@@ -1,6 +1,6 @@
-//! Heights or lanes that rise: each leaves room between it and the one before.
+//! Heights that rise: each leaves room between it and the one before.
 
-ghost use Rattle.std.specs.Prelude.{◌≡◌, ◌+◌, ◌*◌, ◌≤◌, All, IfOk, OnOk, [], ◌∷◌, ◌++◌};
+ghost use Rattle.std.specs.Prelude.{◌≡◌, ◌+◌, ◌≤◌, All, [], ◌∷◌, ◌++◌, cond, is_ok};
 ghost use Rattle.std.specs.List.{AllPairs};
 
 use std::alloc::{AllocError, Global};
@@ -38,7 +38,7 @@ impl Stops {
         requires above { self.old.next ≤ stop }
         requires low { stop ≤ MAX_STOP }
         ensures next { self.new.next ≤ stop + 4 }
-        ensures ok { OnOk result (self.new.items.items ≡ self.old.items.items ++ stop ∷ []) }
+        ensures items { self.new.items.items ≡ cond (is_ok result) (self.old.items.items ++ stop ∷ []) self.old.items.items }
     {
         self.items.push(stop)?;
         self.next = stop + GAP;
@@ -57,28 +57,4 @@ impl Stops {
         }
         Ok(())
     }
-}
-
-/// So many lanes from a number on, each so far from the one before, and where the next one would stand.
-pub fn spread(
-    alloc: Global,
-    start: u32,
-    step: u32,
-    count: usize,
-) -> Result<(Stops, u32), AllocError>
-    requires start { start ≤ 1_000_000 }
-    requires step { (4 ≤ step) × (step ≤ 12) }
-    requires count { count ≤ 10_000 }
-    ensures begin { IfOk result (λ r. All (λ p. start ≤ p) r.0.items.items) }
-    ensures end { IfOk result (λ r. All (λ p. p + 4 ≤ r.1) r.0.items.items) }
-    ensures above { IfOk result (λ r. start ≤ r.1) }
-    ensures low { IfOk result (λ r. r.1 ≤ start + 12 * count) }
-{
-    let mut stops = Stops::new(alloc, start);
-    let mut at = start;
-    for _lane in 0..count {
-        stops.push(at)?;
-        at += step;
-    }
-    Ok((stops, at))
 }

@@ -1,9 +1,7 @@
 //! The style of a page: light and dark by what the reader's system prefers, narrow below 900 units, and on paper.
 
-use crate::html::Html;
-
 /// The style of words, of the head and of columns.
-const WORDS_STYLE: &str = "\
+pub(crate) const WORDS_STYLE: &str = "\
     :root{color-scheme:light dark;--bg:#fff;--ink:#15181c;--mute:#59616b;--line:#d9dde3;--soft:#f2f4f6;--mode:#0b57a4;--tint:#eef4fb;--shade:#e6ebf1;\
     --bad:#b3211a;--badbg:#fdefed;--warn:#8a4f00;--warnbg:#fcf3e2;--yes:#14693a;\
     --sans:system-ui,-apple-system,\"Segoe UI\",Roboto,\"Helvetica Neue\",\"Noto Sans\",\"Liberation Sans\",Arial,sans-serif;\
@@ -46,7 +44,7 @@ const WORDS_STYLE: &str = "\
     ";
 
 /// The style of the picture and of the rights.
-const PICTURE_STYLE: &str = "\
+pub(crate) const PICTURE_STYLE: &str = "\
     svg .off{fill:none;stroke:var(--mute);stroke-dasharray:3 3}\
     svg .on{fill:var(--tint);stroke:var(--mode);stroke-width:2}\
     svg .rim{fill:none;stroke:var(--mode)}\
@@ -88,7 +86,7 @@ const PICTURE_STYLE: &str = "\
     ";
 
 /// The style of programs and of runs.
-const LISTING_STYLE: &str = "\
+pub(crate) const LISTING_STYLE: &str = "\
     .ls .g{display:grid;grid-template-columns:1fr 280px;column-gap:12px}\
     .ls .c s,.ls .c i{text-decoration:none;font-style:normal;color:var(--mute)}\
     .ls .g>*+*{text-indent:0}\
@@ -128,7 +126,7 @@ const LISTING_STYLE: &str = "\
     ";
 
 /// The style on narrow screens and on paper.
-const NARROW_STYLE: &str = "\
+pub(crate) const NARROW_STYLE: &str = "\
     min-width:8px;font-size:9px}.ls .c{padding:0 0 0 6px}\
     .ls .g{display:block}.ls .c,.ls .g div{padding-left:18px;text-indent:-12px}.ls .g div{padding-left:0}.ls .c i{display:block;white-space:normal}\
     .ls ul{margin:0 0 4px -6px;padding:0 0 0 6px;border-left:1px solid var(--line);text-indent:0}.ls li{font-size:10px;line-height:15px}\
@@ -141,11 +139,3 @@ const NARROW_STYLE: &str = "\
     .ls,.run{font-size:7.5pt}.ls{line-height:11pt}.ls li{font-size:7pt}.ls .g{grid-template-columns:1fr 200px}.run li{column-gap:8px}\
     a{text-decoration:none}}\
     ";
-
-/// Adds the style.
-pub(crate) fn add_style(html: &mut Html) {
-    html.markup(WORDS_STYLE);
-    html.markup(PICTURE_STYLE);
-    html.markup(LISTING_STYLE);
-    html.markup(NARROW_STYLE)
-}

@@ -1,22 +1,21 @@
 //! The wires of the rows: each from its row to its panel, or to it from the first row of its class.
 
-ghost use Rattle.std.specs.Prelude.{All, IfOk, IfSome};
-ghost use Rattle.page.specs.WireViews.{ArrivesAt, ArrivesFree, IsAmong, IsPairWire, IsPanelWire, IsWire, KeepAllApart};
+ghost use Rattle.std.specs.Prelude.{IfOk, IfSome};
+ghost use Rattle.page.specs.WireViews.{ArriveFree, IsAmong, IsPairWire, IsPanelWire, IsRow, IsWire, KeepAllApart, StandsAmong};
 
-use crate::arrivals::Arrival;
-use crate::lanes::ClassLane;
+use crate::lanes::{ClassLane, Placed};
 use crate::pictures::{Row, Target};
 use crate::sentences::Tone;
 use crate::wires::{Point, Ways, Wire};
 use std::alloc::{AllocError, Global};
 
-/// Where a panel stands among those that wires arrive at, and the height at which its wire does.
-fn arrival_of(arrivals: &[Arrival], panel: usize) -> Option<(usize, u32)>
-    ensures { IfSome result (λ found. ArrivesAt arrivals.now found.0 panel found.1) }
+/// Where a panel stands among those that are placed.
+fn place_of(placed: &[Placed], panel: usize) -> Option<usize>
+    ensures { IfSome result (λ place. StandsAmong placed.now place panel) }
 {
-    for (at, arrival) in arrivals.iter().enumerate() {
-        if arrival.panel == panel {
-            return Some((at, arrival.height));
+    for (at, place) in placed.iter().enumerate() {
+        if place.panel == panel {
+            return Some(at);
         }
     }
     None
@@ -34,33 +33,46 @@ pub fn class_of(classes: &[ClassLane], class: usize) -> Option<&ClassLane>
     None
 }
 
+/// What a row leads to, and its height.
+fn row_of(ways: &Ways<'_>, row: usize) -> Option<(Target, u32)>
+    ensures { IfSome result (λ found. IsRow ways.now row found.0 found.1) }
+{
+    match (ways.nets.get(row), ways.rows.items.get(row)) {
+        (Some(net), Some(height)) => Some((*net, *height)),
+        _ => None,
+    }
+}
+
 /// The wire from a row to its panel, if it leads to one.
 fn panel_wire(ways: &Ways<'_>, row: usize, tone: Tone) -> Option<Wire>
     ensures { IfSome result (IsPanelWire ways.now) }
 {
-    let (Some(net), Some(height)) = (ways.nets.get(row), ways.rows.items.get(row)) else {
+    let Some((Target::Panel(panel), y)) = row_of(ways, row) else {
         return None;
     };
-    let Target::Panel(panel) = *net else {
+    let Some(place) = place_of(ways.placed, panel) else {
         return None;
     };
-    let Some((place, arrives)) = arrival_of(&ways.arrivals.items, panel) else {
+    let (Some(arrives), Some(lane)) = (ways.arrivals.items.get(place), ways.lanes.panel_x(place))
+    else {
         return None;
     };
-    let Some(lane) = ways.lanes.panel_x(place) else {
-        return None;
-    };
-    Some(Wire {
-        net: *net,
-        from: Point {
+    let (from, to) = (
+        Point {
             x: ways.lanes.right,
-            y: *height,
+            y,
         },
-        lane,
-        to: Point {
+        Point {
             x: ways.lanes.arrive,
-            y: arrives,
+            y: *arrives,
         },
+    );
+    let net = Target::Panel(panel);
+    Some(Wire {
+        net,
+        from,
+        lane,
+        to,
         tone,
     })
 }
@@ -69,42 +81,29 @@ fn panel_wire(ways: &Ways<'_>, row: usize, tone: Tone) -> Option<Wire>
 fn pair_wire(ways: &Ways<'_>, row: usize, tone: Tone) -> Option<Wire>
     ensures { IfSome result (IsPairWire ways.now) }
 {
-    let (Some(net), Some(to)) = (ways.nets.get(row), ways.rows.items.get(row)) else {
-        return None;
-    };
-    let Target::Pair(class) = *net else {
+    let Some((Target::Pair(class), to)) = row_of(ways, row) else {
         return None;
     };
     let Some(found) = class_of(&ways.classes.items, class) else {
         return None;
     };
-    if row <= found.first || found.last < row {
-        return None;
-    }
-    let (Some(origin), Some(from), Some(lane)) = (
-        ways.nets.get(found.first),
-        ways.rows.items.get(found.first),
-        ways.lanes.pair_x(found.lane),
-    ) else {
+    let Some((Target::Pair(first), from)) = row_of(ways, found.first) else {
         return None;
     };
-    let Target::Pair(first) = *origin else {
+    let Some(lane) = ways.lanes.pair_x(found.lane) else {
         return None;
     };
-    if first != class {
+    if first != class || row <= found.first || found.last < row {
         return None;
     }
+    let x = ways.lanes.left;
+    let (from, to) = (Point { x, y: from }, Point { x, y: to });
+    let net = Target::Pair(class);
     Some(Wire {
-        net: *net,
-        from: Point {
-            x: ways.lanes.left,
-            y: *from,
-        },
+        net,
+        from,
         lane,
-        to: Point {
-            x: ways.lanes.left,
-            y: *to,
-        },
+        to,
         tone,
     })
 }
@@ -113,16 +112,15 @@ fn pair_wire(ways: &Ways<'_>, row: usize, tone: Tone) -> Option<Wire>
 fn wire_of(ways: &Ways<'_>, row: usize, tone: Tone) -> Option<Wire>
     ensures { IfSome result (IsWire ways.now) }
 {
-    match ways.nets.get(row) {
-        Some(Target::Panel(_)) => panel_wire(ways, row, tone),
-        Some(Target::Pair(_)) => pair_wire(ways, row, tone),
-        _ => None,
+    match panel_wire(ways, row, tone) {
+        None => pair_wire(ways, row, tone),
+        found => found,
     }
 }
 
 /// The wires of the rows, of which none lies on one of another net.
 pub fn wires_of(alloc: Global, ways: &Ways<'_>, rows: &[&Row]) -> Result<Vec<Wire>, AllocError>
-    requires { All (λ b. ArrivesFree ways.now.nets.now ways.now.rows.now.items.items b.panel b.height) ways.now.arrivals.now.items.items }
+    requires { ArriveFree ways.now.nets.now ways.now.rows.now.items.items ways.now.placed.now ways.now.arrivals.now.items.items }
     ensures { IfOk result (λ wires. KeepAllApart wires.items) }
 {
     let mut wires = Vec::new(alloc);

@@ -1,8 +1,5 @@
-use Rattle.std.proofs.Common.{◌≡◌, ◌≤◌}
+use Rattle.std.proofs.Common.{◌≡◌}
 use Rattle.page.proofs.board.add_row.Given as goal
 
 abbrev pub invariant-loop-note : goal.invariant-loop-note
-invariant-loop-note l = record {
-  room_is : l.block.room ≡ l.initial.block.room;
-  ports_end : l.block.ports.next ≤ l.block.height;
-}
+invariant-loop-note l = l.block.room ≡ l.initial.block.room

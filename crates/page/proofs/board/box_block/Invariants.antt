@@ -1,8 +1,5 @@
-use Rattle.std.proofs.Common.{◌≡◌, ◌≤◌}
+use Rattle.std.proofs.Common.{◌≡◌}
 use Rattle.page.proofs.board.box_block.Given as goal
 
 abbrev pub invariant-loop-row : goal.invariant-loop-row
-invariant-loop-row l = record {
-  room_is : l.block.room ≡ l.initial.block.room;
-  ports_end : l.block.ports.next ≤ l.block.height;
-}
+invariant-loop-row l = l.block.room ≡ l.initial.block.room

@@ -11,6 +11,6 @@ invariant_of-self-2 c = record {
   apart =
       pairs-push (λ (a b : ClassLane). a.lane ≡ b.lane → a.last < b.first) c.args.self.now.items.items c.push.new.self.items _ (is_ok c.push.result)
       c.push.ensures.items c.args.self.now.apart
-      (subst (All (λ (a : ClassLane). a.lane ≡ c.free_lane-lane.result → a.last < c.args.span.first)) c.deref.ensures.value c.free_lane-lane.ensures.free);
+      (subst (All (λ (a : ClassLane). a.lane ≡ c.free_lane-lane.result → a.last < c.args.first)) c.deref.ensures.value c.free_lane-lane.ensures.free);
   least = search rules;
 }
