@@ -1,7 +1,8 @@
 //! What may come next in a run on its way.
 
+use crate::checking::code_of;
 use crate::given::{Names, call_fits};
-use crate::leads::{Lead, Leads, Search, Trial, code_of, event_of};
+use crate::leads::{Lead, Leads, Search, Trial, event_of};
 use crate::numbers::{ProcessPair, model_of};
 use crate::outcomes::is_of_mode;
 use crate::standing::{next_entry, same_call};
@@ -56,28 +57,14 @@ fn add_call<'a>(
 ) {
     let event = event_of(process, 0);
     let shows = Some(at);
-    let child = match (made.call, made.outcome) {
-        (Call::Fork, Outcome::Success(child)) => Some(child),
-        (_, Outcome::Failure(Errno::ENFILE | Errno::ENOSPC | Errno::EAGAIN)) => {
-            let event = Event {
-                refuse: true,
-                ..event
-            };
-            let refused = Trial::Step {
-                event,
-                child: None,
-                shows,
-            };
-            found.add_tried(search, lead, refused);
-            None
-        }
-        _ => None,
-    };
-    let trial = Trial::Step {
-        event,
-        child,
-        shows,
-    };
+    if let Outcome::Failure(Errno::ENFILE | Errno::ENOSPC | Errno::EAGAIN) = made.outcome {
+        let event = Event {
+            refuse: true,
+            ..event
+        };
+        found.add_tried(search, lead, Trial::Step { event, shows });
+    }
+    let trial = Trial::Step { event, shows };
     if !found.add_tried(search, lead, trial) && may_help(lead, process, call) {
         add_by_world(search, lead, trial, found);
     }
@@ -99,12 +86,9 @@ fn add_shown<'a>(
             }
         }
         (Recorded::Ended, Some(Instruction::Halt)) => {
-            let trial = Trial::Step {
-                event: event_of(process, 0),
-                child: None,
-                shows: Some(at),
-            };
-            found.add_tried(search, lead, trial);
+            let event = event_of(process, 0);
+            let shows = Some(at);
+            found.add_tried(search, lead, Trial::Step { event, shows });
         }
         _ => {}
     }
@@ -175,7 +159,7 @@ fn is_handed_on(code: &[Instruction], register: Register) -> bool {
 /// another one; where the register is handed on, those of all comparisons of the task, too.
 fn inputs(search: &Search<'_>, state: &Process, register: Register) -> Page {
     let mut bytes = Page::new(search.alloc);
-    let code = code_of(search.task, state.program);
+    let code = code_of(search.task.programs(), state.program);
     if let Some(behind) = code.get(usize::from(state.point) + 1..) {
         add_first(&mut bytes, behind, register);
     }
@@ -212,11 +196,7 @@ pub(crate) fn add_reading<'a>(
         let trial = if is_of_world {
             Trial::World(event)
         } else {
-            Trial::Step {
-                event,
-                child: None,
-                shows: None,
-            }
+            Trial::Step { event, shows: None }
         };
         found.add_tried(search, lead, trial);
     }
@@ -237,12 +217,8 @@ fn add_repeated<'a>(search: &Search<'a>, lead: &Lead<'a>, process: u8, found: &m
     if let Some(Instruction::Invoke { call, .. }) = lead.instruction(search.task, process) {
         let call = call.call();
         if is_of_mode(call) || matches!(call, Call::Read | Call::Write) {
-            let trial = Trial::Step {
-                event: event_of(process, 0),
-                child: None,
-                shows: None,
-            };
-            found.add_tried(search, lead, trial);
+            let event = event_of(process, 0);
+            found.add_tried(search, lead, Trial::Step { event, shows: None });
         }
     }
 }
@@ -256,24 +232,35 @@ enum Turn {
     Repeated,
 }
 
+/// Adds the runs of this turn that may come next at the entry of a place.
+fn add_at<'a>(search: &Search<'a>, lead: &Lead<'a>, turn: Turn, at: usize, found: &mut Leads<'a>) {
+    let Some(entry) = next_entry(&lead.standing.left, at) else {
+        return;
+    };
+    let Some(process) = stand_in(&lead.pairs, entry.process) else {
+        return;
+    };
+    match turn {
+        Turn::Shown => add_shown(search, lead, process, entry, at, found),
+        Turn::Bytes => add_inputs(search, lead, process, found),
+        Turn::Skipped => {
+            found.add_tried(search, lead, Trial::Skip(at));
+        }
+        Turn::Repeated => add_repeated(search, lead, process, found),
+    }
+}
+
+/// Adds the runs of this turn that may come next.
+fn add_turn<'a>(search: &Search<'a>, lead: &Lead<'a>, turn: Turn, found: &mut Leads<'a>) {
+    for at in 0..MOST_NEXT {
+        add_at(search, lead, turn, at, found);
+    }
+}
+
 /// Adds the runs that may come next, those that show a call first.
 pub(crate) fn add_branches<'a>(search: &Search<'a>, lead: &Lead<'a>, found: &mut Leads<'a>) {
-    for turn in [Turn::Shown, Turn::Bytes, Turn::Skipped, Turn::Repeated] {
-        for at in 0..MOST_NEXT {
-            let Some(entry) = next_entry(&lead.standing.left, at) else {
-                continue;
-            };
-            let Some(process) = stand_in(&lead.pairs, entry.process) else {
-                continue;
-            };
-            match turn {
-                Turn::Shown => add_shown(search, lead, process, entry, at, found),
-                Turn::Bytes => add_inputs(search, lead, process, found),
-                Turn::Skipped => {
-                    found.add_tried(search, lead, Trial::Skip(at));
-                }
-                Turn::Repeated => add_repeated(search, lead, process, found),
-            }
-        }
-    }
+    add_turn(search, lead, Turn::Shown, found);
+    add_turn(search, lead, Turn::Bytes, found);
+    add_turn(search, lead, Turn::Skipped, found);
+    add_turn(search, lead, Turn::Repeated, found);
 }

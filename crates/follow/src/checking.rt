@@ -2,7 +2,7 @@
 
 ghost use Rattle.std.specs.Prelude.{◌≡◌, ◌<◌, IfOk, IsErrOf, OnErr, OnOk, Some, false, map, option_map, true};
 ghost use Rattle.std.specs.List.{slice_get};
-ghost use Rattle.instruction_set.specs.Views.{instruction_of, syscall_of};
+ghost use Rattle.instruction_set.specs.Views.{code_of, instruction_of, syscall_of};
 ghost use Rattle.kernel.specs.Walks.{call_in};
 ghost use Rattle.kernel.specs.WellFormed.{IsWellFormed};
 ghost use Rattle.records.specs.EntryViews.{calls_seen};
@@ -60,28 +60,42 @@ fn call_in(instruction: &Instruction) -> Option<&Syscall>
     }
 }
 
-/// The call at a point of a program, if there is one.
-pub(crate) fn call_at(programs: &[NamedProgram], program: u8, point: u8) -> Option<&Syscall>
-    ensures { option_map (λ c. syscall_of c.now) result ≡ call_in (slice_get (code_in (slice_get (programs_of programs.now) program)) point) }
+/// The instructions of a program: none where there is no such program.
+pub(crate) fn code_of(programs: &[NamedProgram], program: u8) -> &[Instruction]
+    ensures { code_of result.now ≡ code_in (slice_get (programs_of programs.now) program) }
 {
     match programs.get(program as usize) {
-        None => None,
-        Some(named) => match named.program.code().get(point as usize) {
-            None => None,
-            Some(instruction) => call_in(instruction),
-        },
+        None => &[],
+        Some(named) => named.program.code(),
     }
+}
+
+/// The call at a point of some instructions, if there is one.
+fn call_at(code: &[Instruction], point: u8) -> Option<&Syscall>
+    ensures { option_map (λ c. syscall_of c.now) result ≡ call_in (slice_get (code_of code.now) point) }
+{
+    match code.get(point as usize) {
+        None => None,
+        Some(instruction) => call_in(instruction),
+    }
+}
+
+/// A process, if it was made.
+pub(crate) fn process_at(processes: &[Process], number: usize) -> Option<&Process>
+    ensures { option_map (λ process. process.now) result ≡ slice_get processes.now number }
+{
+    processes.get(number)
 }
 
 /// A process before a step, if it was made.
 fn before_step<'t>(task: &'t Task, processes: &[Process], process: u8) -> Option<Before<'t>>
     ensures { option_map before_of result ≡ option_map (before_at (programs_of_plan task.now)) (slice_get processes.now process) }
 {
-    match processes.get(process as usize) {
+    match process_at(processes, usize::from(process)) {
         None => None,
         Some(process) => Some(Before {
             registers: process.registers,
-            call: call_at(task.programs(), process.program, process.point),
+            call: call_at(code_of(task.programs(), process.program), process.point),
         }),
     }
 }
@@ -90,7 +104,7 @@ fn before_step<'t>(task: &'t Task, processes: &[Process], process: u8) -> Option
 fn second_in(processes: &[Process], process: u8) -> u32
     ensures { result ≡ second_in (slice_get processes.now process) }
 {
-    match processes.get(process as usize) {
+    match process_at(processes, usize::from(process)) {
         None => 0,
         Some(process) => process.registers[1],
     }

@@ -95,28 +95,14 @@ fn first_pairs(alloc: Global, task: &Task, entries: &[Entry]) -> Result<Vec<Proc
     Ok(pairs)
 }
 
-/// What a process does in one step, if it does something and there is memory for it.
-fn outcome_of_step(lead: &mut Lead<'_>, process: u8) -> Option<LineResult> {
-    match lead.machine.step(event_of(process, 0)) {
-        Ok(line) => match line.acted {
-            Some(acted) => Some(acted.outcome),
-            None => None,
-        },
-        Err(_) => {
-            lead.is_short = true;
-            None
-        }
-    }
-}
-
 /// What a process does next in a run, from its names to the end of its call.
-fn outcome_in(lead: &mut Lead<'_>, process: u8) -> LineResult {
+fn outcome_in<'a>(task: &'a Task, lead: &mut Lead<'a>, process: u8) -> LineResult {
     let mut outcome = LineResult::Ended;
     for _ in 0..MOST_LOOKUPS {
-        let Some(next) = outcome_of_step(lead, process) else {
+        let Some(seen) = lead.watch(task, event_of(process, 0)) else {
             break;
         };
-        outcome = next;
+        outcome = seen.outcome;
         if !matches!(outcome, LineResult::Walking) {
             break;
         }
@@ -149,7 +135,7 @@ impl<'a> Trail<'a> {
             program: state.program,
             point: state.point,
             in_mode: state.mode(),
-            outcome: outcome_in(&mut run, process),
+            outcome: outcome_in(search.task, &mut run, process),
         };
         let is_refused = !self.points.contains(&point) && self.points.push(point).is_err();
         if is_refused || run.is_short {
@@ -157,14 +143,12 @@ impl<'a> Trail<'a> {
         }
     }
 
-    /// Keeps the runs that come next, which begin where the way is now, the first of them to be gone on with first: that one always, and
-    /// others only while there are few.
+    /// Keeps the runs that come next, the first of them to be gone on with first: that one always, and others only while there are few.
     fn keep(&mut self) {
         for _ in 0..self.next.runs.len() {
             if self.next.runs.len() > 1 && self.leads.runs.len() >= MOST_KEPT {
                 self.next.drop_last();
-            } else if let Some(mut lead) = self.next.runs.pop() {
-                lead.base = self.way.len();
+            } else if let Some(lead) = self.next.runs.pop() {
                 self.leads.push(lead);
             }
         }
@@ -195,6 +179,7 @@ impl<'a> Trail<'a> {
         self.way.truncate(lead.base);
         let is_refused = self.way.extend_from_slice(&lead.moves).is_err();
         lead.moves.clear();
+        lead.base = self.way.len();
         if is_refused || lead.is_short {
             self.leads.is_short = true;
         }
@@ -209,25 +194,50 @@ impl<'a> Trail<'a> {
         false
     }
 
-    /// Searches over at most so many states: what shows that a run shows all, if one is found.
-    fn search(&mut self, search: &Search<'a>, bound: usize) -> Result<Option<Witness>, Memory> {
+    /// Goes on with the last run so: the processes that stand for the record's, if it shows all.
+    fn go_on_with_last(&mut self, search: &Search<'a>) -> Option<Vec<ProcessPair>> {
+        let Some(mut lead) = self.leads.runs.pop() else {
+            return None;
+        };
+        if self.go_on(search, &mut lead) {
+            Some(mem::replace(&mut lead.pairs, Vec::new(search.alloc)))
+        } else {
+            None
+        }
+    }
+
+    /// Searches over at most so many states: what shows that a run shows all, if one is found. Where memory was refused, that is noted.
+    fn search(&mut self, search: &Search<'a>, bound: usize) -> Option<Witness> {
         for _ in 0..bound {
-            if self.leads.is_short {
+            if self.leads.is_short || self.leads.runs.is_empty() {
                 break;
             }
-            let Some(mut lead) = self.leads.runs.pop() else {
-                break;
-            };
-            if self.go_on(search, &mut lead) && !self.leads.is_short {
-                let pairs = mem::replace(&mut lead.pairs, Vec::new(search.alloc));
+            if let Some(pairs) = self.go_on_with_last(search) {
                 let moves = mem::replace(&mut self.way, Vec::new(search.alloc));
-                return Ok(Some(Witness { pairs, moves }));
+                return Some(Witness { pairs, moves });
             }
         }
-        if self.leads.is_short {
-            return Err(Memory);
+        None
+    }
+
+    /// Begins with the run that has no moves, unless some process of it stands for two, or two for one.
+    fn begin(&mut self, search: &Search<'a>, entries: &'a [Entry]) -> Result<(), Memory> {
+        let pairs = first_pairs(search.alloc, search.task, entries)?;
+        let Some(standing) = Standing::first(search.alloc, search.task, &pairs, entries)? else {
+            return Ok(());
+        };
+        match Machine::<'_, LinkTree>::start(search.alloc, search.task) {
+            Ok(machine) => self.leads.push(Lead {
+                machine,
+                standing,
+                pairs,
+                moves: Vec::new(search.alloc),
+                base: 0,
+                is_short: false,
+            }),
+            Err(_) => self.leads.is_short = true,
         }
-        Ok(None)
+        Ok(())
     }
 }
 
@@ -247,25 +257,6 @@ fn place_of(entries: &[Entry], sought: Option<&Entry>) -> usize {
     0
 }
 
-/// The run that has no moves, unless some process of it stands for two, or two for one.
-fn first_lead<'a>(search: &Search<'a>, entries: &'a [Entry]) -> Result<Option<Lead<'a>>, Memory> {
-    let pairs = first_pairs(search.alloc, search.task, entries)?;
-    let Some(standing) = Standing::first(search.alloc, search.task, &pairs, entries)? else {
-        return Ok(None);
-    };
-    match Machine::<'_, LinkTree>::start(search.alloc, search.task) {
-        Ok(machine) => Ok(Some(Lead {
-            machine,
-            standing,
-            pairs,
-            moves: Vec::new(search.alloc),
-            base: 0,
-            is_short: false,
-        })),
-        Err(_) => Err(Memory),
-    }
-}
-
 /// What a search from the beginning comes to: what is found is checked by `shows`.
 fn checked<'a>(
     trail: &mut Trail<'a>,
@@ -275,10 +266,12 @@ fn checked<'a>(
 ) -> Result<Followed, Memory>
     ensures { IfOk result (IsFollowed search.now.task.now (placings_of search.now.placings.now) (calls_seen entries.now)) }
 {
-    if let Some(lead) = first_lead(search, entries)? {
-        trail.leads.push(lead);
+    trail.begin(search, entries)?;
+    let found = trail.search(search, bound);
+    if trail.leads.is_short {
+        return Err(Memory);
     }
-    if let Some(witness) = trail.search(search, bound)? {
+    if let Some(witness) = found {
         match shows(
             search.alloc,
             search.task,

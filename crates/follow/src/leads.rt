@@ -1,16 +1,18 @@
 //! A run on its way, and how far it has come in showing a record.
 
-use crate::checking::watched_step;
+use crate::checking::{code_of, process_at, watched_step};
 use crate::numbers::{ProcessPair, model_of};
+use crate::outcomes::Seen;
 use crate::places::Placing;
 use crate::standing::{Setting, Standing, after_skip, after_step};
 use crate::witnesses::Move;
 use instruction_set::Instruction;
 use link_tree::LinkTree;
 use process::Process;
-use rights::Memory;
+use records::{Entry, Event as Recorded, Outcome};
+use rights::{Call, Memory};
 use simulator::{LineResult, Machine};
-use std::alloc::{AllocError, Global};
+use std::alloc::Global;
 use std::marker::Model;
 use syscalls::Event;
 use task::Task;
@@ -81,24 +83,25 @@ impl<'a> Search<'a> {
     }
 }
 
-/// The instructions of a program of the task: none where there is no such program.
-pub(crate) fn code_of(task: &Task, program: u8) -> &[Instruction] {
-    match task.programs().get(program as usize) {
-        Some(named) => named.program.code(),
-        None => &[],
+/// The process that the entry of a place has made in the record, if it is a fork.
+fn child_at(left: &[&Entry], at: usize) -> Option<u32> {
+    let Some(entry) = left.get(at) else {
+        return None;
+    };
+    let Recorded::Called(made) = &entry.event else {
+        return None;
+    };
+    match (made.call, made.outcome) {
+        (Call::Fork, Outcome::Success(child)) => Some(child),
+        _ => None,
     }
 }
 
 /// What is tried in a run.
 #[derive(Clone, Copy)]
 pub(crate) enum Trial {
-    /// A step, or a call up to where it has come back, that shows the entry of a place, if it shows one. In the record it has made this
-    /// process, if it has made one.
-    Step {
-        event: Event,
-        child: Option<u32>,
-        shows: Option<usize>,
-    },
+    /// A step, or a call up to where it has come back, that shows the entry of a place, if it shows one.
+    Step { event: Event, shows: Option<usize> },
     /// That the entry of a place is skipped.
     Skip(usize),
     /// A step of the world from which something comes, and what it does up to its next call.
@@ -115,7 +118,7 @@ impl<'a> Leads<'a> {
     }
 
     /// Adds a run.
-    fn try_push(&mut self, lead: Lead<'a>) -> Result<(), AllocError> {
+    fn try_push(&mut self, lead: Lead<'a>) -> Result<(), Memory> {
         self.runs.push(lead)?;
         Ok(())
     }
@@ -127,49 +130,77 @@ impl<'a> Leads<'a> {
         }
     }
 
+    /// Adds a copy of a run.
+    fn try_push_copy(&mut self, alloc: Global, lead: &Lead<'a>) -> Result<(), Memory> {
+        let run = lead.copy(alloc)?;
+        self.try_push(run)
+    }
+
     /// Drops the last run.
     pub(crate) fn drop_last(&mut self) {
         self.runs.truncate(self.runs.len().saturating_sub(1));
     }
 
+    /// Tries something in the last run. Whether it may be is told.
+    fn try_in_last(&mut self, search: &Search<'a>, trial: Trial) -> bool {
+        let Some(run) = self.runs.last_mut() else {
+            return false;
+        };
+        let may = run.tries(search, trial);
+        if run.is_short {
+            self.is_short = true;
+        }
+        may
+    }
+
     /// Adds the run in which something is tried, if it may be. Whether it may is told.
     pub(crate) fn add_tried(&mut self, search: &Search<'a>, lead: &Lead<'a>, trial: Trial) -> bool {
-        match lead.copy(search.alloc) {
-            Ok(mut run) => {
-                let may = run.tries(search, trial);
-                self.is_short = self.is_short || run.is_short;
-                if may {
-                    self.push(run);
-                }
-                may
-            }
-            Err(_) => {
-                self.is_short = true;
-                false
-            }
+        if self.try_push_copy(search.alloc, lead).is_err() {
+            self.is_short = true;
+            return false;
+        }
+        let may = self.try_in_last(search, trial);
+        if !may {
+            self.drop_last();
+        }
+        may
+    }
+}
+
+/// A copy of what is in a list. Where memory is refused for it, it is empty, and that is noted.
+fn copied<T: Copy>(alloc: Global, items: &[T], is_short: &mut bool) -> Vec<T> {
+    match Vec::from_slice(alloc, items) {
+        Ok(copy) => copy,
+        Err(_) => {
+            *is_short = true;
+            Vec::new(alloc)
         }
     }
 }
 
 impl<'a> Lead<'a> {
-    /// The same once more.
+    /// The same once more. Where memory was refused for a part of it, that is noted.
     pub(crate) fn copy(&self, alloc: Global) -> Result<Lead<'a>, Memory> {
-        let pairs = Vec::from_slice(alloc, &self.pairs)?;
-        let moves = Vec::from_slice(alloc, &self.moves)?;
-        let standing = self.standing.copy(alloc)?;
+        let machine = self.machine.copy()?;
+        let mut is_short = false;
+        let standing = Standing {
+            left: copied(alloc, &self.standing.left, &mut is_short),
+            namings: copied(alloc, &self.standing.namings, &mut is_short),
+            history: copied(alloc, &self.standing.history, &mut is_short),
+        };
         Ok(Lead {
-            machine: self.machine.copy()?,
+            machine,
             standing,
-            pairs,
-            moves,
+            pairs: copied(alloc, &self.pairs, &mut is_short),
+            moves: copied(alloc, &self.moves, &mut is_short),
             base: self.base,
-            is_short: false,
+            is_short,
         })
     }
 
     /// A process, if it was made.
     pub(crate) fn process(&self, number: u8) -> Option<&Process> {
-        self.machine.processes().get(number as usize)
+        process_at(self.machine.processes(), usize::from(number))
     }
 
     /// The instruction at which a process stands, if it was made, lives, and there is one.
@@ -178,7 +209,7 @@ impl<'a> Lead<'a> {
             return None;
         };
         if process.alive {
-            code_of(task, process.program).get(process.point as usize)
+            code_of(task.programs(), process.program).get(process.point as usize)
         } else {
             None
         }
@@ -196,6 +227,17 @@ impl<'a> Lead<'a> {
         }
     }
 
+    /// What is seen of one step of the machine, if the process was made and there is memory for it.
+    pub(crate) fn watch(&mut self, task: &'a Task, event: Event) -> Option<Seen<'a>> {
+        match watched_step(task, &mut self.machine, event) {
+            Ok(watched) => watched.seen,
+            Err(_) => {
+                self.is_short = true;
+                None
+            }
+        }
+    }
+
     /// One step. It is to show the entry of a place, if it is the last one of its call. What it came to is told, if it may be.
     fn step(
         &mut self,
@@ -203,11 +245,7 @@ impl<'a> Lead<'a> {
         event: Event,
         shows: Option<usize>,
     ) -> Option<LineResult> {
-        let Ok(watched) = watched_step(search.task, &mut self.machine, event) else {
-            self.is_short = true;
-            return None;
-        };
-        let Some(seen) = watched.seen else {
+        let Some(seen) = self.watch(search.task, event) else {
             return None;
         };
         let shows = match seen.outcome {
@@ -241,13 +279,16 @@ impl<'a> Lead<'a> {
         false
     }
 
-    /// Notes that the next process that is made stands for this one of the record, if none does.
-    fn pair_next(&mut self, child: u32) {
+    /// Notes that the next process that is made stands for the one that the entry of a place has made, if it has made one and none does.
+    fn pair_next(&mut self, at: usize) {
+        let Some(real) = child_at(&self.standing.left, at) else {
+            return;
+        };
         let Ok(model) = u8::try_from(self.machine.processes().len()) else {
             return;
         };
-        let is_new = model_of(&self.pairs, child).is_none();
-        if is_new && self.pairs.push(ProcessPair { real: child, model }).is_err() {
+        let is_new = model_of(&self.pairs, real).is_none();
+        if is_new && self.pairs.push(ProcessPair { real, model }).is_err() {
             self.is_short = true;
         }
     }
@@ -255,13 +296,9 @@ impl<'a> Lead<'a> {
     /// Tries something. Whether it may be is told.
     fn tries(&mut self, search: &Search<'a>, trial: Trial) -> bool {
         match trial {
-            Trial::Step {
-                event,
-                child,
-                shows,
-            } => {
-                if let Some(child) = child {
-                    self.pair_next(child);
+            Trial::Step { event, shows } => {
+                if let Some(at) = shows {
+                    self.pair_next(at);
                 }
                 self.run_call(search, event, shows)
             }

@@ -62,20 +62,15 @@ pub(crate) fn is_recorded(pairs: &[ProcessPair], model: usize) -> bool
     }
 }
 
-/// Whether two pairs have neither process in common.
-fn are_apart(pair: ProcessPair, other: ProcessPair) -> bool
-    ensures { result ≡ are_apart (pair_of pair) (pair_of other) }
-{
-    !(pair.real == other.real) && !(pair.model == other.model)
-}
-
 /// Whether a pair has neither process in common with any of these.
 fn is_apart(pair: ProcessPair, pairs: &[ProcessPair]) -> bool
     ensures { result ≡ list_all (are_apart (pair_of pair)) (pairs_of pairs.now) }
 {
     match pairs {
         [] => true,
-        [other, pairs @ ..] => are_apart(pair, *other) && is_apart(pair, pairs),
+        [other, pairs @ ..] => {
+            pair.real != other.real && pair.model != other.model && is_apart(pair, pairs)
+        }
     }
 }
 
@@ -89,22 +84,13 @@ pub(crate) fn is_injection(pairs: &[ProcessPair]) -> bool
     }
 }
 
-impl Naming {
-    /// Whether it is of this number.
-    fn is_of(&self, process: usize, real: u32) -> bool
-        ensures { result ≡ is_of process real (naming_of self.now) }
-    {
-        self.process == process && self.real == real
-    }
-}
-
 /// What stands for a number of a recorded process, if anything does.
 pub(crate) fn named(namings: &[Naming], process: usize, real: u32) -> Option<u32>
     ensures { result ≡ named (namings_seen namings.now) process real }
 {
     let mut model = None;
     for naming in namings {
-        if naming.is_of(process, real) {
+        if naming.process == process && naming.real == real {
             model = naming.model;
         }
     }

@@ -93,10 +93,9 @@ impl<'a> Leads<'a> {
 
     /// Puts the run of a place behind all others.
     fn put_last(&mut self, at: usize) {
-        for place in at..self.runs.len() {
-            if place + 1 < self.runs.len() {
-                self.runs.swap(place, place + 1);
-            }
+        if at < self.runs.len() {
+            let run = self.runs.remove(at);
+            self.push(run);
         }
     }
 

@@ -14,6 +14,7 @@ ghost use Rattle.follow.specs.Standings.{after_shown, after_skip, after_step, fi
 ghost use Rattle.follow.specs.Standings.{may_overtake, may_skip, next_entry, shows_call, shows_event};
 ghost use Rattle.follow.specs.Views.{entries_behind, if_stands, namings_seen, pairs_of, seen_of, setting_of, standing_of};
 
+use crate::checking::process_at;
 use crate::given::{Names, call_fits};
 use crate::numbers::{
     Naming, ProcessPair, add_first, is_injection, is_process, is_recorded, model_of,
@@ -70,24 +71,17 @@ pub(crate) fn has_limiting(entries: &[Entry]) -> bool
     false
 }
 
-/// Whether an event is a call or an end, and not left out.
-fn is_counted(event: &Event) -> bool
-    ensures { result ≡ is_counted (event_seen event.now) }
-{
-    match event {
-        Event::Called(_) | Event::Ended => true,
-        Event::Omitted(_) => false,
-    }
-}
-
 /// Adds an entry, if it is a call or an end.
 fn add_counted<'c>(left: &mut Vec<&'c Entry>, entry: &'c Entry) -> Result<(), Memory>
     ensures { OnOk result (entries_behind left.new.items ≡ entries_behind left.old.items ++ kept (record_entry_seen entry.now)) }
 {
-    if is_counted(&entry.event) {
-        left.push(entry)?;
+    match entry.event {
+        Event::Omitted(_) => Ok(()),
+        Event::Called(_) | Event::Ended => {
+            left.push(entry)?;
+            Ok(())
+        }
     }
-    Ok(())
 }
 
 /// The calls and ends of a record.
@@ -163,13 +157,6 @@ fn shows_call(
         && same_outcome(setting.pairs, made.call, made.outcome, seen.outcome)
 }
 
-/// Whether it ended its process.
-fn is_halt(outcome: LineResult) -> bool
-    ensures { result ≡ is_halt (result_of outcome) }
-{
-    matches!(outcome, LineResult::Halted)
-}
-
 /// Whether a step shows what happened in the record.
 fn shows_event(
     setting: &Setting<'_>,
@@ -182,7 +169,7 @@ fn shows_event(
 {
     match event {
         Event::Called(made) => shows_call(setting, namings, process, seen, made),
-        Event::Ended => is_halt(seen.outcome),
+        Event::Ended => matches!(seen.outcome, LineResult::Halted),
         Event::Omitted(_) => false,
     }
 }
@@ -213,7 +200,7 @@ pub(crate) fn may_skip(
 fn is_outside(processes: &[Process], process: usize) -> bool
     ensures { result ≡ is_outside (slice_get processes.now process) }
 {
-    match processes.get(process) {
+    match process_at(processes, process) {
         None => false,
         Some(process) => !process.mode(),
     }
@@ -240,17 +227,6 @@ impl<'c> Standing<'c> {
             namings,
             history: Vec::new(alloc),
         }))
-    }
-
-    /// The same once more.
-    pub(crate) fn copy(&self, alloc: Global) -> Result<Standing<'c>, Memory>
-        ensures { IfOk result (λ copy. standing_of copy ≡ standing_of self.now) }
-    {
-        Ok(Standing {
-            left: Vec::from_slice(alloc, &self.left)?,
-            namings: Vec::from_slice(alloc, &self.namings)?,
-            history: Vec::from_slice(alloc, &self.history)?,
-        })
     }
 
     /// Whether all is shown.
