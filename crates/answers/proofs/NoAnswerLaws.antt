@@ -65,21 +65,17 @@ unfolding Tells
 not_silent plan c [] text tells is = let clash = sym tells ∙ is in cc
 not_silent plan c (f ∷ fs) text tells is = some_told plan c f fs tells.last tells.told tells.each (second_empty tells.before tells.told (sym tells.whole ∙ is))
 
-added_nothing : (text more : List ℕ) → text ≡ text ++ more → more ≡ []
-added_nothing [] more is = sym is
-added_nothing (byte ∷ text) more is = added_nothing text more (let same = is in cc)
-
 pub no_says : NoSaysWhether
 no_says = record {
-  refused = λ files task certificate text bounds_text plan bounds before after is_text is_bounds is_task is_certificate refused answers.
-      refused (accepted_if text bounds_text plan bounds is_task is_certificate answers.text answers.bounds_text answers.told
+  refused = λ files task certificate text bounds_text plan bounds written is_text is_bounds is_task is_certificate refused answers.
+      refused (accepted_if text bounds_text plan bounds is_task is_certificate answers.text answers.bounds_text written
       (same_some (sym answers.is_file ∙ is_text)) (same_some (sym answers.is_bounds ∙ is_bounds)) answers.says);
-  accepted = λ files task certificate text bounds_text plan bounds before after is_text is_bounds is_task is_certificate accepted answers.
-      refused_if text bounds_text plan bounds is_task is_certificate answers.text answers.bounds_text answers.told
+  accepted = λ files task certificate text bounds_text plan bounds written is_text is_bounds is_task is_certificate accepted answers.
+      refused_if text bounds_text plan bounds is_task is_certificate answers.text answers.bounds_text written
       (same_some (sym answers.is_file ∙ is_text)) (same_some (sym answers.is_bounds ∙ is_bounds)) answers.says accepted;
-  silent = λ files task certificate status before answers.
-      not_silent answers.says.plan (expansion answers.says.plan answers.says.bounds) (findings answers.says.plan (expansion answers.says.plan answers.says.bounds)) answers.told answers.says.tells
-      (added_nothing before answers.told (same_some answers.writes));
+  silent = λ files task certificate status answers.
+      not_silent answers.says.plan (expansion answers.says.plan answers.says.bounds) (findings answers.says.plan (expansion answers.says.plan answers.says.bounds)) []
+      answers.says.tells refl;
   headless = no_head;
 }
 
@@ -88,11 +84,11 @@ plan_of text told plan status is_task is says = same_ok (task_of text) (sym (λ 
 
 pub none_says : NoneSaysWhether
 none_says = record {
-  unfit = λ files task text plan before after is_text is_task none answers.
+  unfit = λ files task text plan written is_text is_task none answers.
       let plan_is = plan_of text answers.text plan 0 is_task (same_some (sym answers.is_file ∙ is_text)) answers.says in
       let found = answers.says.found refl in
       none found.0 (subst (λ (p : Plan). IsAccepted p found.0) plan_is found.1);
-  fits = λ files task text plan bounds before after is_text is_task is_flat accepted answers.
+  fits = λ files task text plan bounds written is_text is_task is_flat accepted answers.
       let plan_is = plan_of text answers.text plan 1 is_task (same_some (sym answers.is_file ∙ is_text)) answers.says in
       answers.says.unfound refl bounds (subst (λ (p : Plan). flat p ≡ Some bounds) (sym plan_is) is_flat) (subst (λ (p : Plan). IsAccepted p bounds) (sym plan_is) accepted);
 }
@@ -104,46 +100,44 @@ log_refused files task text is_text refused (inl says) =
     refused (says.says.plan, sym (λ k. task_of (same_some (sym says.is_file ∙ is_text) k)) ∙ says.says.is_task)
 log_refused files task text is_text refused (inr says) = let clash = says.told in cc
 
-log_fits : (files : List ℕ → Option (List ℕ)) (task text : List ℕ) (plan : Plan) (bounds : Certificate) (before after : Option (List ℕ)) → files task ≡ Some text
+log_fits : (files : List ℕ → Option (List ℕ)) (task text : List ℕ) (plan : Plan) (bounds : Certificate) (written : List ℕ) → files task ≡ Some text
     → task_of text ≡ Ok plan → flat plan ≡ Some bounds → IsAccepted plan bounds → SaysOfSearch (Some files) task 1 ⊎ SaysNoTask (Some files) task 1 → ⊥
-log_fits files task text plan bounds before after is_text is_task is_flat accepted (inl says) =
-    none_says.fits files task text plan bounds before after is_text is_task is_flat accepted says
-log_fits files task text plan bounds before after is_text is_task is_flat accepted (inr says) =
+log_fits files task text plan bounds written is_text is_task is_flat accepted (inl says) =
+    none_says.fits files task text plan bounds written is_text is_task is_flat accepted says
+log_fits files task text plan bounds written is_text is_task is_flat accepted (inr says) =
     says.refused (plan, (λ k. task_of (same_some (sym says.is_file ∙ is_text) k)) ∙ is_task)
 
 pub log_says : LogSaysWhether
 log_says = record {
-  refused = λ files task text before after is_text refused answers. log_refused files task text is_text refused answers;
-  fits = λ files task text plan bounds before after is_text is_task is_flat accepted answers.
-      log_fits files task text plan bounds before after is_text is_task is_flat accepted answers;
+  refused = λ files task text written is_text refused answers. log_refused files task text is_text refused answers;
+  fits = λ files task text plan bounds written is_text is_task is_flat accepted answers.
+      log_fits files task text plan bounds written is_text is_task is_flat accepted answers;
 }
 
 begun : (calls : RecordedCalls) → calls_text calls ≡ [] → ⊥
 begun calls is = let clash = is in cc
 
-not_shown : (plan said : Plan) (places : List (List ℕ)) (recorded heard : RecordedCalls) (before after : Option (List ℕ)) → said ≡ plan → heard ≡ recorded
-    → ((witness : Witness) → IsShown plan (placings_in places) recorded witness → ⊥) → SaysFollowed said (placings_in places) heard 0 before after → ⊥
-not_shown plan said places recorded heard before after plan_is calls_are none (inl follows) =
+not_shown : (plan said : Plan) (places : List (List ℕ)) (recorded heard : RecordedCalls) (written : List ℕ) → said ≡ plan → heard ≡ recorded
+    → ((witness : Witness) → IsShown plan (placings_in places) recorded witness → ⊥) → SaysFollowed said (placings_in places) heard 0 written → ⊥
+not_shown plan said places recorded heard written plan_is calls_are none (inl follows) =
     none follows.1.witness
     (subst (λ (c : RecordedCalls). IsShown plan (placings_in places) c follows.1.witness) calls_are
     (subst (λ (p : Plan). IsShown p (placings_in places) heard follows.1.witness) plan_is follows.1.is_shown))
-not_shown plan said places recorded heard before after plan_is calls_are none (inr parts) = cc
+not_shown plan said places recorded heard written plan_is calls_are none (inr parts) = cc
 
-not_written : (plan : Plan) (places : List (List ℕ)) (calls : RecordedCalls) (before : List ℕ) → SaysFollowed plan (placings_in places) calls 0 (Some before) (Some before) → ⊥
-not_written plan places calls before (inl follows) =
-    let text = added_nothing before (schedule_text (events_of follows.1.witness.moves) ++ (codes "\n" ++ follows.1.writes.0)) (same_some follows.1.writes.1) in
-    let blank = second_empty (schedule_text (events_of follows.1.witness.moves)) (codes "\n" ++ follows.1.writes.0) text in
+not_written : (plan : Plan) (places : List (List ℕ)) (calls : RecordedCalls) → SaysFollowed plan (placings_in places) calls 0 [] → ⊥
+not_written plan places calls (inl follows) =
+    let blank = second_empty (schedule_text (events_of follows.1.witness.moves)) (codes "\n" ++ follows.1.is_text.0) (sym follows.1.is_text.1) in
     cc
-not_written plan places calls before (inr parts) = cc
+not_written plan places calls (inr parts) = cc
 
 pub records_are_heard : RecordsAreHeard
 records_are_heard = record {
-  silent = λ files file status before answers.
-      begun answers.says.calls (added_nothing before (calls_text answers.says.calls) (same_some answers.says.writes));
-  unshown = λ files task calls text calls_text places plan recorded before after is_text is_calls is_task are_calls none answers.
-      not_shown plan answers.says.plan places recorded answers.says.calls before after
+  silent = λ files file status answers. begun answers.says.calls (sym answers.says.is_text);
+  unshown = λ files task calls text calls_text places plan recorded written is_text is_calls is_task are_calls none answers.
+      not_shown plan answers.says.plan places recorded answers.says.calls written
       (same_ok (task_of text) (sym (λ k. task_of (same_some (sym answers.is_file ∙ is_text) k)) ∙ answers.says.is_task) is_task)
       (same_ok (calls_of_text calls_text) (sym (λ k. calls_of_text (same_some (sym answers.is_calls_file ∙ is_calls) k)) ∙ answers.says.are_calls) are_calls)
       none answers.says.says;
-  unwritten = λ files task calls places before answers. not_written answers.says.plan places answers.says.calls before answers.says.says;
+  unwritten = λ files task calls places answers. not_written answers.says.plan places answers.says.calls answers.says.says;
 }

@@ -1,42 +1,53 @@
 -- What is written, by what stands on its page.
-use Rattle.std.proofs.Common.{◌≡◌, ℕ, true, List, [], ◌++◌, length, refl, inl, inr, ap, subst, ◌∙◌}
-use Rattle.std.specs.Prelude.{codes, Option}
-use Rattle.kernel.specs.Answers.{Event}
-use Rattle.explore.specs.Texts.{schedule_text}
+use Rattle.std.proofs.Common.{◌≡◌, ℕ, true, List, [], ◌++◌, length, map, refl, inl, inr, ap, subst, ◌∙◌}
+use Rattle.std.specs.Prelude.{codes, Some}
+use Rattle.explore.specs.BreachViews.{breach_of}
+use Rattle.explore.specs.FoundViews.{IsAttacked, IsFound}
+use Rattle.explore.specs.Texts.{WritesDetailed, schedule_text}
+use Rattle.explore.specs.declared.exploring.FoundAttack.{FoundAttack}
+use Rattle.explore.specs.declared.exploring.FoundRun.{FoundRun}
 use Rattle.follow.specs.Places.{Placing}
 use Rattle.follow.specs.Shows.{IsShown, Witness, events_of}
+use Rattle.kernel.specs.Answers.{Event}
 use Rattle.records.specs.Accounts.{ListTheOthers}
 use Rattle.records.specs.Calls.{RecordedCalls, are_calls}
 use Rattle.records.specs.Texts.{calls_text}
-use Rattle.rights.specs.Output.{Took}
+use Rattle.syscalls.specs.Views.{event_of}
 use Rattle.task.specs.Plans.{Plan}
 use Rattle.texts.specs.Lines.{lines_of}
-use Rattle.answers.specs.Answered.{SaysCalls, SaysFollowed, SaysScheduled, SaysWhether}
+use Rattle.answers.specs.Answered.{SaysCalls, SaysFollowed, SaysRefuted, SaysScheduled, SaysWhether}
 
-pub schedule_written : (before after : Option (List ℕ)) (first scheduled all text tally : List ℕ) (events seen : List Event) → first ≡ []
-    → scheduled ≡ first ++ schedule_text seen → all ≡ scheduled ++ (codes "\n" ++ tally) → text ≡ all → seen ≡ events → Took before after text
-    → SaysScheduled events 0 before after
-schedule_written before after first scheduled all text tally events seen empty adds says whole same took =
+pub schedule_written : (status : ℕ) (first scheduled all text tally : List ℕ) (events seen : List Event) → status ≡ 0 → first ≡ []
+    → scheduled ≡ first ++ schedule_text seen → all ≡ scheduled ++ (codes "\n" ++ tally) → text ≡ all → seen ≡ events
+    → SaysScheduled events status text
+schedule_written status first scheduled all text tally events seen done empty adds says whole same =
     let behind : List ℕ = codes "\n" ++ tally in
     let is : text ≡ schedule_text events ++ behind =
     whole ∙ says ∙ ap (λ t. t ++ behind) (adds ∙ ap (λ t. t ++ schedule_text seen) empty) ∙ ap (λ (es : List Event). schedule_text es ++ behind) same
     in
-    inl (refl, (tally, subst (λ (bytes : List ℕ). Took before after bytes) is took))
+    inl (done, (tally, is))
 
-pub run_followed : (plan : Plan) (placings : List Placing) (calls : RecordedCalls) (witness : Witness) (status : ℕ) (before after : Option (List ℕ)) → IsShown plan placings calls witness
-    → SaysScheduled (events_of witness.moves) status before after → SaysFollowed plan placings calls status before after
-run_followed plan placings calls witness status before after shown (inl writes) = inl (writes.0, record { witness = witness; is_shown = shown; writes = writes.1 })
-run_followed plan placings calls witness status before after shown (inr parts) = inr parts
+pub run_followed : (plan : Plan) (placings : List Placing) (calls : RecordedCalls) (witness : Witness) (status : ℕ) (text : List ℕ)
+    → IsShown plan placings calls witness → SaysScheduled (events_of witness.moves) status text → SaysFollowed plan placings calls status text
+run_followed plan placings calls witness status text shown (inl writes) = inl (writes.0, record { witness = witness; is_shown = shown; is_text = writes.1 })
+run_followed plan placings calls witness status text shown (inr parts) = inr parts
 
-pub calls_written : (record_text : List ℕ) (status : ℕ) (calls seen : RecordedCalls) (misread silent unread : List ℕ) (before after : Option (List ℕ)) (first all text : List ℕ)
+pub calls_written : (record_text : List ℕ) (status : ℕ) (calls seen : RecordedCalls) (misread silent unread : List ℕ) (first all text : List ℕ)
     → are_calls calls ≡ true → ListTheOthers (length (lines_of record_text)) calls misread silent → first ≡ [] → all ≡ first ++ calls_text seen → seen ≡ calls → text ≡ all
-    → Took before after text → unread ≡ misread → SaysWhether status (unread ≡ []) → SaysCalls record_text status before after
-calls_written record_text status calls seen misread silent unread before after first all text within others empty adds same whole took is says = record {
+    → unread ≡ misread → SaysWhether status (unread ≡ []) → SaysCalls record_text status text
+calls_written record_text status calls seen misread silent unread first all text within others empty adds same whole is says = record {
   calls = calls;
   within = within;
   misread = misread;
   silent = silent;
   others = others;
-  writes = subst (λ (bytes : List ℕ). Took before after bytes) (whole ∙ adds ∙ ap (λ t. t ++ calls_text seen) empty ∙ ap calls_text same) took;
+  is_text = whole ∙ adds ∙ ap (λ t. t ++ calls_text seen) empty ∙ ap calls_text same;
   says = subst (λ (lines : List ℕ). SaysWhether status (lines ≡ [])) is says;
 }
+
+pub run_refutes : (plan : Plan) (found : FoundRun) (text : List ℕ) → IsFound plan found
+    → WritesDetailed plan (map event_of found.events.items) (breach_of found.breach) found.detail.items (Some []) (Some text) → SaysRefuted plan 1 text
+run_refutes plan found text is writes = inr (refl, inl (record { events = _; breach = _; breaks = is.breaks; refuted = is.refuted; is_text = (found.detail.items, writes) }))
+
+pub attack_refutes : (plan : Plan) (found : FoundAttack) (text : List ℕ) → IsAttacked plan found → SaysRefuted plan 1 text
+attack_refutes plan found text is = inr (refl, inr (record { moves = _; breach = _; breaks = is.breaks; refuted = is.refuted }))

@@ -71,14 +71,12 @@ pub record SaysOfSearch (files : Files) (name : List ℕ) (status : ℕ) : Type 
   pub is_file : IsFile files name text
   pub says : SaysFound status text
 
-pub record SaysOfFiles (files : Files) (task certificate : List ℕ) (status : ℕ) (before after : Option (List ℕ)) : Type 0 where
+pub record SaysOfFiles (files : Files) (task certificate : List ℕ) (status : ℕ) (written : List ℕ) : Type 0 where
   pub text : List ℕ
   pub is_file : IsFile files task text
   pub bounds_text : List ℕ
   pub is_bounds : IsFile files certificate bounds_text
-  pub told : List ℕ
-  pub says : SaysBroken status text bounds_text told
-  pub writes : Took before after told
+  pub says : SaysBroken status text bounds_text written
 
 pub record SaysOfChecked (files : Files) (task certificate : List ℕ) (status : ℕ) : Type 0 where
   pub text : List ℕ
@@ -95,22 +93,22 @@ pub record SaysNoTask (files : Files) (name : List ℕ) (status : ℕ) : Type 0 
   pub refused : IsTaskText text → ⊥
 
 -- A certificate is written that is accepted, with status 0, or none, with status 1.
-pub record Offers (plan : Plan) (before after : Option (List ℕ)) : Type 0 where
+pub record Offers (plan : Plan) (written : List ℕ) : Type 0 where
   pub bounds : Certificate
   pub accepted : IsAccepted plan bounds
-  pub writes : Took before after (certificate_text bounds)
+  pub is_text : written ≡ certificate_text bounds
 
-abbrev pub SaysOffered : Plan → ℕ → Option (List ℕ) → Option (List ℕ) → Type 0
-SaysOffered plan status before after = ((status ≡ 0) × Offers plan before after) ⊎ ((status ≡ 1) × Took before after (codes "none\n"))
+abbrev pub SaysOffered : Plan → ℕ → List ℕ → Type 0
+SaysOffered plan status written = ((status ≡ 0) × Offers plan written) ⊎ ((status ≡ 1) × (written ≡ codes "none\n"))
 
 -- A run is written whose last step breaks something, with status 1, and the task is neither sandboxed nor confined; or there is one in which
 -- attackers do what they like, with status 1 too, and the task isn't confined; 0 claims nothing.
-pub record Refutes (plan : Plan) (before after : Option (List ℕ)) : Type 0 where
+pub record Refutes (plan : Plan) (written : List ℕ) : Type 0 where
   pub events : List Event
   pub breach : explore.Breach
   pub breaks : Breaks plan (own_moves events) (Some breach)
   pub refuted : IsRefuted plan (own_moves events)
-  pub writes : WritesRun plan events breach before after
+  pub is_text : WritesRun plan events breach (Some []) (Some written)
 
 pub record Attacks (plan : Plan) : Type 0 where
   pub moves : List Move
@@ -118,92 +116,94 @@ pub record Attacks (plan : Plan) : Type 0 where
   pub breaks : Breaks plan moves (Some breach)
   pub refuted : IsRefuted plan moves
 
-abbrev pub SaysRefuted : Plan → ℕ → Option (List ℕ) → Option (List ℕ) → Type 0
-SaysRefuted plan status before after = (status ≡ 0) ⊎ ((status ≡ 1) × (Refutes plan before after ⊎ Attacks plan))
+abbrev pub SaysRefuted : Plan → ℕ → List ℕ → Type 0
+SaysRefuted plan status written = (status ≡ 0) ⊎ ((status ≡ 1) × (Refutes plan written ⊎ Attacks plan))
 
-pub record SaysOfRuns (files : Files) (name : List ℕ) (status : ℕ) (before after : Option (List ℕ)) : Type 0 where
+pub record SaysOfRuns (files : Files) (name : List ℕ) (status : ℕ) (written : List ℕ) : Type 0 where
   pub text : List ℕ
   pub is_file : IsFile files name text
   pub plan : Plan
   pub is_task : task_of text ≡ Ok plan
-  pub says : SaysRefuted plan status before after
+  pub says : SaysRefuted plan status written
 
-pub record SaysOfTask (files : Files) (name : List ℕ) (status : ℕ) (before after : Option (List ℕ)) : Type 0 where
+pub record SaysOfTask (files : Files) (name : List ℕ) (status : ℕ) (written : List ℕ) : Type 0 where
   pub text : List ℕ
   pub is_file : IsFile files name text
   pub plan : Plan
   pub is_task : task_of text ≡ Ok plan
-  pub says : SaysOffered plan status before after
+  pub says : SaysOffered plan status written
 
 -- Of a record's text calls are written that are within the limits, and each line has one of them or is among the others; 0 says that every line is understood.
-pub record SaysCalls (text : List ℕ) (status : ℕ) (before after : Option (List ℕ)) : Type 0 where
+pub record SaysCalls (text : List ℕ) (status : ℕ) (written : List ℕ) : Type 0 where
   pub calls : RecordedCalls
   pub within : are_calls calls ≡ true
   pub misread : List ℕ
   pub silent : List ℕ
   pub others : ListTheOthers (length (lines_of text)) calls misread silent
-  pub writes : Took before after (calls_text calls)
+  pub is_text : written ≡ calls_text calls
   pub says : SaysWhether status (misread ≡ [])
 
-pub record SaysOfRecord (files : Files) (name : List ℕ) (status : ℕ) (before after : Option (List ℕ)) : Type 0 where
+pub record SaysOfRecord (files : Files) (name : List ℕ) (status : ℕ) (written : List ℕ) : Type 0 where
   pub text : List ℕ
   pub is_file : IsFile files name text
-  pub says : SaysCalls text status before after
+  pub says : SaysCalls text status written
 
 -- A schedule is written, a blank line, and a text behind it.
-abbrev pub WritesSchedule : List Event → Option (List ℕ) → Option (List ℕ) → Type 0
-WritesSchedule events before after = (tally : List ℕ) × Took before after (schedule_text events ++ (codes "\n" ++ tally))
+abbrev pub IsSchedule : List Event → List ℕ → Type 0
+IsSchedule events written = (tally : List ℕ) × (written ≡ schedule_text events ++ (codes "\n" ++ tally))
 
 -- that with status 0, or 1
-abbrev pub SaysScheduled : List Event → ℕ → Option (List ℕ) → Option (List ℕ) → Type 0
-SaysScheduled events status before after = ((status ≡ 0) × WritesSchedule events before after) ⊎ (status ≡ 1)
+abbrev pub SaysScheduled : List Event → ℕ → List ℕ → Type 0
+SaysScheduled events status written = ((status ≡ 0) × IsSchedule events written) ⊎ (status ≡ 1)
 
 -- so of a run that shows recorded calls
-pub record Follows (plan : Plan) (placings : List Placing) (calls : RecordedCalls) (before after : Option (List ℕ)) : Type 0 where
+pub record Follows (plan : Plan) (placings : List Placing) (calls : RecordedCalls) (written : List ℕ) : Type 0 where
   pub witness : Witness
   pub is_shown : IsShown plan placings calls witness
-  pub writes : WritesSchedule (events_of witness.moves) before after
+  pub is_text : IsSchedule (events_of witness.moves) written
 
 -- with status 0; 1 claims nothing
-abbrev pub SaysFollowed : Plan → List Placing → RecordedCalls → ℕ → Option (List ℕ) → Option (List ℕ) → Type 0
-SaysFollowed plan placings calls status before after = ((status ≡ 0) × Follows plan placings calls before after) ⊎ (status ≡ 1)
+abbrev pub SaysFollowed : Plan → List Placing → RecordedCalls → ℕ → List ℕ → Type 0
+SaysFollowed plan placings calls status written = ((status ≡ 0) × Follows plan placings calls written) ⊎ (status ≡ 1)
 
 -- of the texts of a task and of recorded calls, with words REAL=MODEL
-pub record SaysWhetherFollowed (task calls_text : List ℕ) (places : List (List ℕ)) (status : ℕ) (before after : Option (List ℕ)) : Type 0 where
+pub record SaysWhetherFollowed (task calls_text : List ℕ) (places : List (List ℕ)) (status : ℕ) (written : List ℕ) : Type 0 where
   pub plan : Plan
   pub is_task : task_of task ≡ Ok plan
   pub calls : RecordedCalls
   pub are_calls : calls_of_text calls_text ≡ Ok calls
-  pub says : SaysFollowed plan (placings_in places) calls status before after
+  pub says : SaysFollowed plan (placings_in places) calls status written
 
-pub record SaysOfFollowing (files : Files) (task calls : List ℕ) (places : List (List ℕ)) (status : ℕ) (before after : Option (List ℕ)) : Type 0 where
+pub record SaysOfFollowing (files : Files) (task calls : List ℕ) (places : List (List ℕ)) (status : ℕ) (written : List ℕ) : Type 0 where
   pub text : List ℕ
   pub is_file : IsFile files task text
   pub calls_text : List ℕ
   pub is_calls_file : IsFile files calls calls_text
-  pub says : SaysWhetherFollowed text calls_text places status before after
+  pub says : SaysWhetherFollowed text calls_text places status written
 
--- what is taken of the output before and after is told of broken rules, of proposals, of runs, of calls, of what is learnt and of plans
-abbrev pub Answers : Files → Question → ℕ → Option (List ℕ) → Option (List ℕ) → Type 0
-Answers files Usage status before after = status ≡ 0
-Answers files (Listing task certificate) status before after = status ≡ 0
-Answers files (Broken task certificate) status before after = SaysOfFiles files task certificate status before after
-Answers files (Unfound task) status before after = SaysOfSearch files task status
-Answers files (Breach task states) status before after = SaysOfRuns files task status before after
-Answers files (Proposed task certificate) status before after = SaysOfTask files task status before after
-Answers files (Page task None) status before after = SaysOfSearch files task status
-Answers files (Page task (Some certificate)) status before after = SaysOfChecked files task certificate status
-Answers files (Log task None) status before after = SaysOfSearch files task status ⊎ SaysNoTask files task status
-Answers files (Log task (Some certificate)) status before after = SaysOfChecked files task certificate status ⊎ SaysNoTask files task status
-Answers files (Faulty task) status before after = SaysOfFile files task status
-Answers files (Calls file) status before after = SaysOfRecord files file status before after
-Answers files (Followed task calls places) status before after = SaysOfFollowing files task calls places status before after
-Answers files (Learnt calls) status before after = SaysLearnt files calls status before after
-Answers files (Planned line calls) status before after = SaysPlanned files calls status before after
-Answers files (NamesLeft calls) status before after = HearsCalls files calls status
+-- What is written counts of broken rules, of proposals, of runs, of calls, of what is learnt and of plans.
+abbrev pub Answers : Files → Question → ℕ → List ℕ → Type 0
+Answers files Usage status written = status ≡ 0
+Answers files (Listing task certificate) status written = status ≡ 0
+Answers files (Broken task certificate) status written = SaysOfFiles files task certificate status written
+Answers files (Unfound task) status written = SaysOfSearch files task status
+Answers files (Breach task states) status written = SaysOfRuns files task status written
+Answers files (Proposed task certificate) status written = SaysOfTask files task status written
+Answers files (Page task None) status written = SaysOfSearch files task status
+Answers files (Page task (Some certificate)) status written = SaysOfChecked files task certificate status
+Answers files (Log task None) status written = SaysOfSearch files task status ⊎ SaysNoTask files task status
+Answers files (Log task (Some certificate)) status written = SaysOfChecked files task certificate status ⊎ SaysNoTask files task status
+Answers files (Faulty task) status written = SaysOfFile files task status
+Answers files (Calls file) status written = SaysOfRecord files file status written
+Answers files (Followed task calls places) status written = SaysOfFollowing files task calls places status written
+Answers files (Learnt calls) status written = SaysLearnt files calls status written
+Answers files (Planned line calls) status written = SaysPlanned files calls status written
+Answers files (NamesLeft calls) status written = HearsCalls files calls status
 
--- The words ask something, and it is answered.
+-- The words ask something, it is answered, and that is written behind what was written before.
 pub record AnswersWords (files : Files) (words : List (List ℕ)) (status : ℕ) (before after : Option (List ℕ)) : Type 0 where
   pub question : Question
   pub asked : question_in words ≡ Some question
-  pub answered : Answers files question status before after
+  pub written : List ℕ
+  pub answered : Answers files question status written
+  pub writes : Took before after written

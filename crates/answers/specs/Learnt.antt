@@ -1,10 +1,9 @@
 -- What is said of a task that was learnt of recorded calls. (own)
-use Rattle.std.specs.Prelude.{◌≡◌, ◌⊎◌, ℕ, List, [], ◌∷◌, Option, Ok}
+use Rattle.std.specs.Prelude.{◌≡◌, ◌⊎◌, ℕ, List, [], ◌∷◌, Ok}
 use Rattle.console.specs.Files.{Files, IsRead}
 use Rattle.follow.specs.Shows.{IsShown, Witness}
 use Rattle.records.specs.Calls.{RecordedCalls}
 use Rattle.records.specs.Readings.{calls_of_text}
-use Rattle.rights.specs.Output.{Took}
 use Rattle.task.specs.Plans.{Plan}
 use Rattle.task_reader.specs.Reading.{task_of}
 
@@ -28,19 +27,17 @@ abbrev pub SaysFollowedBy : Plan → List RecordedCalls → ℕ → Type 0
 SaysFollowedBy plan records status = ((status ≡ 0) × AreFollowed plan records) ⊎ (status ≡ 1)
 
 -- The text of a task is written, of which that is said.
-pub record WritesTask (records : List RecordedCalls) (status : ℕ) (before after : Option (List ℕ)) : Type 0 where
-  pub text : List ℕ
+pub record WritesTask (records : List RecordedCalls) (status : ℕ) (written : List ℕ) : Type 0 where
   pub plan : Plan
-  pub is_task : task_of text ≡ Ok plan
-  pub writes : Took before after text
+  pub is_task : task_of written ≡ Ok plan
   pub says : SaysFollowedBy plan records status
 
 -- Nothing is written, with status 1.
-abbrev pub WritesNothing : ℕ → Option (List ℕ) → Option (List ℕ) → Type 0
-WritesNothing status before after = (status ≡ 1) × (after ≡ before)
+abbrev pub WritesNothing : ℕ → List ℕ → Type 0
+WritesNothing status written = (status ≡ 1) × (written ≡ [])
 
 -- of files of recorded calls
-pub record SaysLearnt (files : Files) (names : List (List ℕ)) (status : ℕ) (before after : Option (List ℕ)) : Type 0 where
+pub record SaysLearnt (files : Files) (names : List (List ℕ)) (status : ℕ) (written : List ℕ) : Type 0 where
   pub records : List RecordedCalls
   pub are_calls : AreCalls files names records
-  pub says : WritesTask records status before after ⊎ WritesNothing status before after
+  pub says : WritesTask records status written ⊎ WritesNothing status written

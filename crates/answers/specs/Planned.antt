@@ -1,11 +1,10 @@
 -- What is said of a plan of recorded calls: of the task that it prints, as it stands and with the program that enters the mode marked untrusted. (own)
-use Rattle.std.specs.Prelude.{◌≡◌, ◌⊎◌, ◌++◌, ℕ, Bool, true, false, List, Option, Ok, codes}
+use Rattle.std.specs.Prelude.{◌≡◌, ◌⊎◌, ◌++◌, ℕ, Bool, true, false, List, Ok, codes}
 use Rattle.answers.specs.Learnt.{AreCalls, WritesNothing}
 use Rattle.certificate.specs.Bounds.{Certificate}
 use Rattle.checker.specs.Verdicts.{IsAccepted}
 use Rattle.console.specs.Files.{Files}
 use Rattle.records.specs.Calls.{RecordedCalls}
-use Rattle.rights.specs.Output.{Took}
 use Rattle.task.specs.Plans.{Plan}
 use Rattle.task_reader.specs.Reading.{task_of}
 use Rattle.texts.specs.Names.{is_name}
@@ -53,21 +52,21 @@ pub record IsHonest (front name back : List ℕ) (trusted untrusted : Bool) : Ty
   pub marked : untrusted ≡ true → IsAcceptable (marked_text front name back trusted untrusted)
 
 -- Such a text is written: with status 0 if it says that a certificate of the task is accepted, and else with 1.
-pub record WritesPlan (status : ℕ) (before after : Option (List ℕ)) : Type 0 where
+pub record WritesPlan (status : ℕ) (written : List ℕ) : Type 0 where
   pub front : List ℕ
   pub name : List ℕ
   pub back : List ℕ
   pub trusted : Bool
   pub untrusted : Bool
   pub honest : IsHonest front name back trusted untrusted
-  pub writes : Took before after (plan_text front name back trusted untrusted)
+  pub is_text : written ≡ plan_text front name back trusted untrusted
   pub says : ((status ≡ 0) × (trusted ≡ true)) ⊎ ((status ≡ 1) × (trusted ≡ false))
 
 -- of files of recorded calls, behind whose line the mode is to be entered
-pub record SaysPlanned (files : Files) (names : List (List ℕ)) (status : ℕ) (before after : Option (List ℕ)) : Type 0 where
+pub record SaysPlanned (files : Files) (names : List (List ℕ)) (status : ℕ) (written : List ℕ) : Type 0 where
   pub records : List RecordedCalls
   pub are_calls : AreCalls files names records
-  pub says : WritesPlan status before after ⊎ WritesNothing status before after
+  pub says : WritesPlan status written ⊎ WritesNothing status written
 
 -- The files have calls.
 pub record HearsCalls (files : Files) (names : List (List ℕ)) (status : ℕ) : Type 0 where

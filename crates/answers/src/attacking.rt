@@ -1,15 +1,11 @@
 //! The run in which an attacker breaks a task's sandbox.
 
-ghost use Rattle.std.specs.Prelude.{◌≡◌, ◌<◌, ◌-◌, ◌^◌, IfOk};
-
-use console::Fault;
-use console::statuses::BROKEN;
+use crate::breaching::breach_text;
 use explore::{
     Entry, FoundAttack, Move, Takeover, add_breach, add_schedule, breaks, events_of, takeovers,
-    write_breach,
 };
 use review::add_deed;
-use rights::{Memory, Out, write_all};
+use rights::Memory;
 use std::alloc::{AllocError, Global};
 use syscalls::Event;
 use task::Task;
@@ -123,48 +119,41 @@ fn add_deeds(page: &mut Page, moves: &[Move<'_>]) {
     }
 }
 
-/// Writes the run of a task in which attackers do what is written in its file, with the file, if that run breaks something. Whether it does
-/// is told.
-fn write_attacked<'a, W: Out>(
+/// The run of a task in which attackers do what is written in its file, and the file, if that run breaks something.
+fn attacked_text(
     alloc: Global,
     file: &[u8],
     found: &FoundAttack<'_>,
-    out: &mut W,
-) -> Result<bool, Fault<'a>>
-    requires { W.faults out.old < 2 ^ 64 - 1 }
-    ensures { IfOk result (λ is. W.faults out.new ≡ W.faults out.old) }
-{
+) -> Result<Option<Vec<u8>>, Memory> {
     let Ok(task) = read_task(alloc, file) else {
-        return Ok(false);
+        return Ok(None);
     };
     let events = events_of(alloc, &found.moves)?;
     let moves = own_moves(alloc, &events)?;
-    let Some(breach) = breaks(alloc, &task, &moves)? else {
-        return Ok(false);
+    let breach = match breaks(alloc, &task, &moves) {
+        Ok(Some(breach)) => breach,
+        Ok(None) => return Ok(None),
+        Err(_) => return Err(Memory),
     };
-    write_breach(alloc, &task, &events, &breach, &found.detail, out)?;
+    let run = breach_text(alloc, &task, &events, &breach, &found.detail)?;
     let mut page = Page::new(alloc);
+    page.bytes(&run);
     add_deeds(&mut page, &found.moves);
     say!(&mut page; "\n", file);
-    write_all(out, page.finish()?)?;
-    Ok(true)
+    Ok(Some(page.into_bytes()?))
 }
 
-/// Writes a run in which attackers break a task's sandbox, and gives the status: its schedule, its trace, what is broken, what they do, and the file in
-/// which they do it; or, where that doesn't fit into a program, without the trace and the file.
-pub(crate) fn write_attack<'a, W: Out>(
+/// A run in which attackers break a task's sandbox: its schedule, its trace, what is broken, what they do, and the file in which they do it; or, where
+/// that doesn't fit into a program, without the trace and the file.
+pub(crate) fn attack_text(
     alloc: Global,
     file: &[u8],
     task: &Task,
     found: &FoundAttack<'_>,
-    out: &mut W,
-) -> Result<u8, Fault<'a>>
-    requires { W.faults out.old < 2 ^ 64 - 1 }
-    ensures { IfOk result (λ status. status ≡ 1) }
-{
+) -> Result<Vec<u8>, Memory> {
     if let Some(attacked) = attacked_file(alloc, file, task, &found.moves)? {
-        if write_attacked(alloc, &attacked, found, out)? {
-            return Ok(BROKEN);
+        if let Some(text) = attacked_text(alloc, &attacked, found)? {
+            return Ok(text);
         }
     }
     let events = events_of(alloc, &found.moves)?;
@@ -173,6 +162,5 @@ pub(crate) fn write_attack<'a, W: Out>(
     "\n".say(&mut page);
     add_deeds(&mut page, &found.moves);
     add_breach(&mut page, &found.breach, &found.detail);
-    write_all(out, page.finish()?)?;
-    Ok(BROKEN)
+    Ok(page.into_bytes()?)
 }

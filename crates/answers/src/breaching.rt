@@ -1,19 +1,24 @@
 //! The run that breaks a task's sandbox.
 
-ghost use Rattle.std.specs.Prelude.{◌≡◌, ◌<◌, ◌-◌, ◌^◌, IfOk, Ok, true};
-ghost use Rattle.console.specs.Statuses.{is_done_status};
+ghost use Rattle.std.specs.Prelude.{◌≡◌, [], IfOk, Ok, Some, map};
+ghost use Rattle.explore.specs.BreachViews.{breach_of};
+ghost use Rattle.explore.specs.FoundViews.{IsExplored};
+ghost use Rattle.explore.specs.Texts.{WritesDetailed};
+ghost use Rattle.syscalls.specs.Views.{event_of};
 ghost use Rattle.task.specs.Plans.{Plan};
 ghost use Rattle.task_reader.specs.Reading.{task_of};
 ghost use Rattle.answers.specs.Answered.{SaysRefuted};
 
-use crate::attacking::write_attack;
+use crate::answers::{Answer, Gathered};
+use crate::attacking::attack_text;
+use crate::refusals::Refusal;
 use checker::{BrokenRule, all_findings};
-use console::Fault;
-use console::statuses::{BROKEN, DONE};
-use explore::{Deeds, Explored, Goal, Watcher, explore, write_breach};
-use rights::{Memory, Out, write_all};
+use console::statuses::BROKEN;
+use explore::{Breach, Deeds, Explored, Goal, Watcher, explore, write_breach};
+use rights::Memory;
 use searcher::reached;
 use std::alloc::{AllocError, Global};
+use syscalls::Event;
 use task::Task;
 use task_reader::read_task;
 use texts::{Page, say};
@@ -40,59 +45,76 @@ fn goals_of(alloc: Global, task: &Task) -> Result<Vec<Goal>, Memory> {
     }
 }
 
-/// Writes that no run was found, and how far the search came. That claims nothing.
-fn write_unbroken<'a, W: Out>(
+/// The text of a run that breaks something, as `write_breach` writes it.
+pub(crate) fn breach_text(
     alloc: Global,
-    states: usize,
-    how_far: &str,
-    out: &mut W,
-) -> Result<u8, Fault<'a>>
-    requires { W.faults out.old < 2 ^ 64 - 1 }
-    ensures { IfOk result (λ status. status ≡ 0) }
+    task: &Task,
+    events: &[Event],
+    breach: &Breach,
+    detail: &[u8],
+) -> Result<Vec<u8>, Memory>
+    ensures { IfOk result (λ text. WritesDetailed task.now (map event_of events.now) (breach_of breach.now) detail.now (Some []) (Some text.items)) }
+{
+    let mut out = Gathered::new(alloc);
+    match write_breach(alloc, task, events, breach, detail, &mut out) {
+        Ok(()) => Ok(out.bytes),
+        Err(_) => Err(Memory),
+    }
+}
+
+/// That no run was found, and how far the search came. It claims nothing.
+fn unbroken(alloc: Global, states: usize, how_far: &str) -> Result<Answer, Memory>
+    ensures { IfOk result (λ answer. answer.status ≡ 0) }
 {
     let mut page = Page::new(alloc);
     say!(&mut page; "no run was found that breaks anything; states met: ", states, how_far, "\n");
-    write_all(out, page.finish()?)?;
-    Ok(DONE)
+    Ok(Answer::done(page)?)
 }
 
-/// Writes the run of a task that is found to break something, or that none is, and gives the status.
-pub(crate) fn answer_breach<'a, W: Out, P: Watcher>(
+/// The answer to what a search came to.
+#[tactic(auto, using(crate::proofs::Writes::run_refutes, crate::proofs::Writes::attack_refutes))]
+fn explored_answer(
     alloc: Global,
     file: &[u8],
-    states: Option<u32>,
-    out: &mut W,
-    watcher: &mut P,
-) -> Result<u8, Fault<'a>>
-    requires { W.faults out.old < 2 ^ 64 - 1 }
-    ensures task { IfOk result (λ status. (plan : Plan) × (task_of file.now ≡ Ok plan) × SaysRefuted plan status (W.taken out.old) (W.taken out.new)) }
-    ensures done { IfOk result (λ status. is_done_status status ≡ true) }
+    task: &Task,
+    explored: &Explored<'_>,
+) -> Result<Answer, Memory>
+    requires { IsExplored task.now explored.now }
+    ensures { IfOk result (λ answer. SaysRefuted task.now answer.status answer.text.items) }
 {
-    let task = read_task(alloc, file)?;
-    let bound = states.unwrap_or(MOST_STATES) as usize;
-    let Ok(goals) = goals_of(alloc, &task) else {
-        return Err(Fault::Memory);
-    };
-    let Ok(deeds) = Deeds::new(alloc, &task) else {
-        return Err(Fault::Memory);
-    };
-    let Ok(explored) = explore(alloc, &task, &deeds, &goals, bound, watcher) else {
-        return Err(Fault::Memory);
-    };
     match explored {
         Explored::Breaks(found) => {
-            let (events, breach) = (&found.events, &found.breach);
-            write_breach(alloc, &task, events, breach, &found.detail, out)?;
-            Ok(BROKEN)
+            let text = breach_text(alloc, task, &found.events, &found.breach, &found.detail)?;
+            Ok(Answer::new(alloc, text, BROKEN))
         }
-        Explored::Attacked(found) => write_attack(alloc, file, &task, &found, out),
+        Explored::Attacked(found) => {
+            let text = attack_text(alloc, file, task, found)?;
+            Ok(Answer::new(alloc, text, BROKEN))
+        }
         Explored::Ended(states) => {
             let how_far = ", and there are no others with the bytes that were tried";
-            write_unbroken(alloc, states, how_far, out)
+            unbroken(alloc, *states, how_far)
         }
         Explored::Bounded(states) => {
             let how_far = ", and there are others: give a greater number to go on";
-            write_unbroken(alloc, states, how_far, out)
+            unbroken(alloc, *states, how_far)
         }
     }
+}
+
+/// The run of a task that is found to break something, or that none is.
+pub(crate) fn answer_breach<'a, P: Watcher>(
+    alloc: Global,
+    file: &[u8],
+    states: Option<u32>,
+    watcher: &mut P,
+) -> Result<Answer, Refusal<'a>>
+    ensures { IfOk result (λ answer. (plan : Plan) × (task_of file.now ≡ Ok plan) × SaysRefuted plan answer.status answer.text.items) }
+{
+    let task = read_task(alloc, file)?;
+    let bound = states.unwrap_or(MOST_STATES) as usize;
+    let goals = goals_of(alloc, &task)?;
+    let deeds = Deeds::new(alloc, &task)?;
+    let explored = explore(alloc, &task, &deeds, &goals, bound, watcher)?;
+    Ok(explored_answer(alloc, file, &task, &explored)?)
 }

@@ -1,21 +1,20 @@
 //! Whether recorded calls follow a task.
 
-ghost use Rattle.std.specs.Prelude.{◌≡◌, ◌<◌, ◌-◌, ◌^◌, IfOk, map, string_bytes, true};
+ghost use Rattle.std.specs.Prelude.{◌≡◌, IfOk, map, string_bytes};
 ghost use Rattle.answers.specs.Answered.{SaysFollowed, SaysScheduled, SaysWhetherFollowed};
-ghost use Rattle.console.specs.Statuses.{is_done_status};
 ghost use Rattle.follow.specs.Shows.{events_of};
 ghost use Rattle.follow.specs.Views.{moves_of, placings_of};
 ghost use Rattle.records.specs.EntryViews.{calls_seen};
 
+use crate::answers::Answer;
 use crate::parting::{Held, add_parted};
 use crate::placing_words::placings_in;
 use crate::refusals::Refusal;
-use console::statuses::{BROKEN, DONE};
 use explore::add_schedule;
 use follow::{Followed, Move, Parted, events_of, follow};
 use records::{Binding, Entry, Event, MadeCall, Operand, read_calls};
+use rights::Memory;
 use rights::limits::MAX_EVENTS;
-use rights::{Memory, Out, write_all};
 use std::alloc::Global;
 use task_reader::read_task;
 use task_text::texts_of_file;
@@ -144,78 +143,51 @@ fn shown_by(alloc: Global, entries: &[Entry], moves: &[Move]) -> Result<Shown, M
     Ok(shown)
 }
 
-/// Tells what a run shows of a record.
-fn tally(alloc: Global, shown: &Shown) -> Page {
-    let mut page = Page::new(alloc);
+/// Adds what a run shows of a record.
+fn add_tally(page: &mut Page, shown: &Shown) {
     let mut count = 0usize;
     for skipped in &shown.skipped {
         count = count.saturating_add(skipped.count);
     }
-    say!(&mut page; "follows: ", shown.calls, " calls are shown, ", count, " are skipped\n");
+    say!(page; "follows: ", shown.calls, " calls are shown, ", count, " are skipped\n");
     for skipped in &shown.skipped {
-        say!(&mut page; "  skipped: ", skipped.count, " ", skipped.what.as_slice());
-        say!(&mut page; ", from line ", skipped.line, " on\n");
+        say!(page; "  skipped: ", skipped.count, " ", skipped.what.as_slice());
+        say!(page; ", from line ", skipped.line, " on\n");
     }
-    page
 }
 
-/// Writes that the run that was found has more events than a run may have.
-fn write_too_long<'a, W: Out>(alloc: Global, count: usize, out: &mut W) -> Result<u8, Refusal<'a>>
-    requires { W.faults out.old < 2 ^ 64 - 1 }
-    ensures { IfOk result (λ status. status ≡ 1) }
-{
-    let mut page = Page::new(alloc);
-    say!(&mut page; "parts: the run that was found has ", count, " events, and a run has ", MAX_EVENTS, " at most\n");
-    write_all(out, page.finish()?)?;
-    Ok(BROKEN)
-}
-
-/// Writes the run of a task that shows recorded calls: its schedule, a blank line, and what it shows and skips.
-fn write_followed<'a, W: Out>(
-    alloc: Global,
-    entries: &[Entry],
-    moves: &[Move],
-    out: &mut W,
-) -> Result<u8, Refusal<'a>>
-    requires { W.faults out.old < 2 ^ 64 - 1 }
-    ensures writes { IfOk result (λ status. SaysScheduled (events_of (moves_of moves.now)) status (W.taken out.old) (W.taken out.new)) }
-    ensures done { IfOk result (λ status. is_done_status status ≡ true) }
+/// The run of a task that shows recorded calls: its schedule, a blank line, and what it shows and skips. One with more events than a run may
+/// have is none.
+fn followed(alloc: Global, entries: &[Entry], moves: &[Move]) -> Result<Answer, Memory>
+    ensures { IfOk result (λ answer. SaysScheduled (events_of (moves_of moves.now)) answer.status answer.text.items) }
 {
     let events = events_of(alloc, moves)?;
-    if events.len() > MAX_EVENTS {
-        return write_too_long(alloc, events.len(), out);
-    }
-    let tally = tally(alloc, &shown_by(alloc, entries, moves)?);
     let mut page = Page::new(alloc);
+    if events.len() > MAX_EVENTS {
+        say!(&mut page; "parts: the run that was found has ", events.len(), " events, and a run has ", MAX_EVENTS, " at most\n");
+        return Ok(Answer::broken(page)?);
+    }
+    let mut tally = Page::new(alloc);
+    add_tally(&mut tally, &shown_by(alloc, entries, moves)?);
     add_schedule(&mut page, &events);
     say!(&mut page; "\n", &tally);
-    write_all(out, page.finish()?)?;
-    Ok(DONE)
+    Ok(Answer::done(page)?)
 }
 
-/// Writes how far the search for a run came that shows recorded calls.
-fn write_parted<'a, W: Out>(
-    alloc: Global,
-    held: &Held<'_>,
-    parted: &Parted,
-    out: &mut W,
-) -> Result<u8, Refusal<'a>>
-    requires { W.faults out.old < 2 ^ 64 - 1 }
-    ensures { IfOk result (λ status. status ≡ 1) }
+/// How far the search for a run came that shows recorded calls.
+fn parted(alloc: Global, held: &Held<'_>, parted: &Parted) -> Result<Answer, Memory>
+    ensures { IfOk result (λ answer. answer.status ≡ 1) }
 {
     let mut page = Page::new(alloc);
     add_parted(&mut page, held, parted);
-    write_all(out, page.finish()?)?;
-    Ok(BROKEN)
+    Ok(Answer::broken(page)?)
 }
 
-/// Writes a run of a task that shows recorded calls, or how far the search for one came.
+/// A run of a task that shows recorded calls, or how far the search for one came.
 #[tactic(auto, using(crate::proofs::Writes::run_followed))]
-fn write_held<'a, W: Out>(alloc: Global, held: &Held<'_>, out: &mut W) -> Result<u8, Refusal<'a>>
-    requires { W.faults out.old < 2 ^ 64 - 1 }
-    ensures says { IfOk result (λ status. SaysFollowed held.now.task.now (placings_of held.now.placings.now) (calls_seen held.now.entries.now) status
-        (W.taken out.old) (W.taken out.new)) }
-    ensures done { IfOk result (λ status. is_done_status status ≡ true) }
+fn answer_held(alloc: Global, held: &Held<'_>) -> Result<Answer, Memory>
+    ensures { IfOk result (λ answer. SaysFollowed held.now.task.now (placings_of held.now.placings.now) (calls_seen held.now.entries.now)
+        answer.status answer.text.items) }
 {
     match follow(
         alloc,
@@ -224,23 +196,20 @@ fn write_held<'a, W: Out>(alloc: Global, held: &Held<'_>, out: &mut W) -> Result
         held.entries,
         most_states(held.entries),
     )? {
-        Followed::Follows(witness) => write_followed(alloc, held.entries, &witness.moves, out),
-        Followed::Parts(parted) => write_parted(alloc, held, &parted, out),
+        Followed::Follows(witness) => followed(alloc, held.entries, &witness.moves),
+        Followed::Parts(far) => parted(alloc, held, &far),
     }
 }
 
-/// Writes a run of a task that shows recorded calls, or how far the search for one came, and gives the status: 1 where none is found,
-/// which claims nothing. The words are REAL=MODEL.
-pub(crate) fn answer_follow<'a, W: Out>(
+/// A run of a task that shows recorded calls, or how far the search for one came; the status is 1 where none is found, which claims nothing.
+/// The words are REAL=MODEL.
+pub(crate) fn answer_follow<'a>(
     alloc: Global,
     file: &[u8],
     calls: &[u8],
     words: &[String],
-    out: &mut W,
-) -> Result<u8, Refusal<'a>>
-    requires { W.faults out.old < 2 ^ 64 - 1 }
-    ensures says { IfOk result (λ status. SaysWhetherFollowed file.now calls.now (map string_bytes words.now) status (W.taken out.old) (W.taken out.new)) }
-    ensures done { IfOk result (λ status. is_done_status status ≡ true) }
+) -> Result<Answer, Refusal<'a>>
+    ensures { IfOk result (λ answer. SaysWhetherFollowed file.now calls.now (map string_bytes words.now) answer.status answer.text.items) }
 {
     let task = read_task(alloc, file)?;
     let entries = read_calls(alloc, calls)?;
@@ -253,5 +222,5 @@ pub(crate) fn answer_follow<'a, W: Out>(
         placings: &placings,
         entries: &entries,
     };
-    write_held(alloc, &held, out)
+    Ok(answer_held(alloc, &held)?)
 }

@@ -7,9 +7,10 @@ ghost use Rattle.checker.specs.Verdicts.{IsAccepted};
 ghost use Rattle.console.specs.Statuses.{is_done_status};
 ghost use Rattle.searcher.specs.Flat.{flat};
 
+use crate::refusals::Refusal;
 use certificate::{Cert, Version};
 use checker::{BrokenRule, all_findings, expand};
-use console::{Fault, status_of_verdict};
+use console::status_of_verdict;
 use rights::Memory;
 use searcher::{propose, reached, search};
 use std::alloc::Global;
@@ -98,7 +99,11 @@ fn given_bounds(alloc: Global, task: &Task, cert: &Cert) -> Result<KnownBounds, 
 
 /// Judges the texts of a task and a certificate.
 #[tactic(auto, using(crate::proofs::Refused::says_verdict, crate::proofs::Refused::verdict_done))]
-pub(crate) fn judge_texts<'a>(alloc: Global, file: &[u8], cert: &[u8]) -> Result<Judged, Fault<'a>>
+pub(crate) fn judge_texts<'a>(
+    alloc: Global,
+    file: &[u8],
+    cert: &[u8],
+) -> Result<Judged, Refusal<'a>>
     ensures says { IfOk result (λ judged. SaysChecked judged.status file.now cert.now) }
     ensures done { IfOk result (λ judged. is_done_status judged.status ≡ true) }
 {

@@ -1,11 +1,11 @@
 //! A task, of recorded calls.
 
-ghost use Rattle.std.specs.Prelude.{◌≡◌, ◌<◌, ◌-◌, ◌^◌, ◌++◌, ◌∷◌, [], IfOk, None, Ok, OnErr, map, string_bytes, true};
-ghost use Rattle.answers.specs.Learnt.{AreCalls, AreFollowed, IsFollowed, SaysLearnt, WritesTask};
-ghost use Rattle.console.specs.Statuses.{is_done_status};
+ghost use Rattle.std.specs.Prelude.{◌≡◌, ◌++◌, ◌∷◌, [], IfOk, None, Ok, map, string_bytes, true};
+ghost use Rattle.answers.specs.Learnt.{AreCalls, AreFollowed, IsFollowed, SaysLearnt, WritesNothing, WritesTask};
 ghost use Rattle.records.specs.EntryViews.{calls_seen};
 ghost use Rattle.task_reader.specs.Reading.{task_of};
 
+use crate::answers::Answer;
 use crate::following::most_states;
 use crate::refusals::Refusal;
 use crate::usage::NAME;
@@ -14,7 +14,7 @@ use console::statuses::{BROKEN, DONE};
 use follow::{Followed, follow};
 use learner::{LearnFault, learn};
 use records::{Entry, read_calls};
-use rights::{Memory, Out, write_all};
+use rights::Memory;
 use std::alloc::Global;
 use task::Task;
 use task_reader::{TaskFault, read_task};
@@ -66,13 +66,6 @@ fn first_lost(alloc: Global, task: &Task, records: &[Vec<Entry>]) -> Result<Opti
     Ok(None)
 }
 
-/// What is told where no run is found for the record of a place.
-fn told_of(alloc: Global, at: usize) -> Result<Vec<u8>, Memory> {
-    let mut told = Page::new(alloc);
-    say!(&mut told; NAME, ": no run was found that shows the calls of file ", at.saturating_add(1), "\n");
-    Ok(told.into_bytes()?)
-}
-
 /// Why nothing is learnt.
 pub(crate) fn why_nothing(fault: LearnFault) -> &'static str {
     match fault {
@@ -92,78 +85,61 @@ fn why_refused(fault: &TaskFault) -> &'static str {
     }
 }
 
-/// Tells on the error stream why nothing is learnt, and gives the status.
-pub(crate) fn tell_nothing<'a, V: Out>(
-    alloc: Global,
-    why: &str,
-    err: &mut V,
-) -> Result<u8, Refusal<'a>>
-    requires { V.faults err.old < 2 ^ 64 - 1 }
-    ensures broken { IfOk result (λ status. status ≡ 1) }
-    ensures untold { OnErr result (err.new ≡ err.old) }
+/// That nothing is learnt, and why.
+pub(crate) fn nothing(alloc: Global, why: &str) -> Result<Answer, Memory>
+    ensures { IfOk result (λ answer. WritesNothing answer.status answer.text.items) }
 {
     let mut told = Page::new(alloc);
     say!(&mut told; NAME, ": nothing is learnt: ", why, "\n");
-    let _ = write_all(err, told.finish()?);
-    Ok(BROKEN)
+    Ok(Answer {
+        text: Vec::new(alloc),
+        told: told.into_bytes()?,
+        status: BROKEN,
+    })
 }
 
-/// Writes the text of a task, tells on the error stream the first record for which no run of it is found, and gives the status.
+/// The text of a task, with the first record told for which no run of it is found.
 #[tactic(auto, using(crate::proofs::LearntLaws::all_followed, crate::proofs::LearntLaws::one_lost))]
-fn write_learnt<'a, W: Out, V: Out>(
+fn learnt_answer(
     alloc: Global,
-    text: &[u8],
+    text: Vec<u8>,
     task: &Task,
     records: &[Vec<Entry>],
-    out: &mut W,
-    err: &mut V,
-) -> Result<u8, Refusal<'a>>
-    requires is_task { task_of text.now ≡ Ok task.now }
-    requires out { W.faults out.old < 2 ^ 64 - 1 }
-    requires err { V.faults err.old < 2 ^ 64 - 1 }
-    ensures says { IfOk result (λ status. WritesTask (map (λ entries. calls_seen entries.items) records.now) status (W.taken out.old) (W.taken out.new)) }
-    ensures done { IfOk result (λ status. is_done_status status ≡ true) }
-    ensures untold { OnErr result (err.new ≡ err.old) }
+) -> Result<Answer, Memory>
+    requires { task_of text.items ≡ Ok task.now }
+    ensures { IfOk result (λ answer. WritesTask (map (λ entries. calls_seen entries.items) records.now) answer.status answer.text.items) }
 {
-    match first_lost(alloc, task, records)? {
-        None => {
-            write_all(out, text)?;
-            Ok(DONE)
-        }
-        Some(at) => {
-            let told = told_of(alloc, at)?;
-            write_all(out, text)?;
-            let _ = write_all(err, &told);
-            Ok(BROKEN)
-        }
-    }
+    let Some(at) = first_lost(alloc, task, records)? else {
+        return Ok(Answer::new(alloc, text, DONE));
+    };
+    let mut told = Page::new(alloc);
+    say!(&mut told; NAME, ": no run was found that shows the calls of file ", at.saturating_add(1), "\n");
+    Ok(Answer {
+        text,
+        told: told.into_bytes()?,
+        status: BROKEN,
+    })
 }
 
-/// Writes a task that recorded calls show, tells on the error stream for which of them no run of it is found or why there is none, and
-/// gives the status: 0 where each follows it.
-#[tactic(auto, using(crate::proofs::LearntLaws::learnt))]
-pub(crate) fn answer_learn<'a, S: Source, W: Out, V: Out>(
+/// A task that recorded calls show, with what is told: for which of them no run of it is found, or why there is none. The status is 0 where each
+/// follows it.
+#[tactic(auto, using(crate::proofs::LearntLaws::learnt, crate::proofs::LearntLaws::nothing_learnt))]
+pub(crate) fn answer_learn<'a, S: Source>(
     alloc: Global,
     files: &mut S,
     names: &'a [String],
-    out: &mut W,
-    err: &mut V,
-) -> Result<u8, Refusal<'a>>
-    requires out { W.faults out.old < 2 ^ 64 - 1 }
-    requires err { V.faults err.old < 2 ^ 64 - 1 }
-    ensures says { IfOk result (λ status. SaysLearnt (S.files files.old) (map string_bytes names.now) status (W.taken out.old) (W.taken out.new)) }
-    ensures done { IfOk result (λ status. is_done_status status ≡ true) }
-    ensures untold { OnErr result (err.new ≡ err.old) }
+) -> Result<Answer, Refusal<'a>>
+    ensures { IfOk result (λ answer. SaysLearnt (S.files files.old) (map string_bytes names.now) answer.status answer.text.items) }
 {
     let records = calls_of_files(alloc, files, names)?;
     let text = match learn(alloc, &records) {
         Ok(text) => text,
         Err(LearnFault::Memory) => return Err(Refusal::from(Memory)),
-        Err(fault) => return tell_nothing(alloc, why_nothing(fault), err),
+        Err(fault) => return Ok(nothing(alloc, why_nothing(fault))?),
     };
     match read_task(alloc, &text) {
-        Ok(task) => write_learnt(alloc, &text, &task, &records, out, err),
+        Ok(task) => Ok(learnt_answer(alloc, text, &task, &records)?),
         Err(TaskFault::Memory) => Err(Refusal::from(Memory)),
-        Err(fault) => tell_nothing(alloc, why_refused(&fault), err),
+        Err(fault) => Ok(nothing(alloc, why_refused(&fault))?),
     }
 }

@@ -2,6 +2,7 @@
 #![tactic(auto)]
 
 pub mod answering;
+mod answers;
 mod attacking;
 mod breaching;
 mod following;

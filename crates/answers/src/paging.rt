@@ -1,210 +1,160 @@
 //! The page of a task.
 
-ghost use Rattle.std.specs.Prelude.{◌≡◌, ◌<◌, ◌-◌, ◌^◌, IfOk, true};
-ghost use Rattle.console.specs.Statuses.{is_done_status};
+ghost use Rattle.std.specs.Prelude.{◌≡◌, IfOk};
 ghost use Rattle.answers.specs.Answered.{SaysFound, SaysOfChecked, SaysOfSearch};
 
+use crate::answers::Answer;
 use crate::breaching::{MOST_STATES, goals_in};
-use crate::known_bounds::{Judged, KnownBounds, judge_texts, known_bounds};
+use crate::known_bounds::{KnownBounds, judge_texts, known_bounds};
+use crate::refusals::Refusal;
+use console::Source;
 use console::statuses::{BROKEN, DONE};
-use console::{Fault, Source};
 use explain::Scene;
 use explore::{Deeds, Explored, FoundAttack, Watcher, explore};
 use page::{Html, add_sheet};
 use review::{Outcome, Reviewed, played_moves, sheet_of};
-use rights::{Out, write_all};
+use rights::Memory;
 use std::alloc::Global;
 use task::Task;
 use task_reader::read_task;
 use task_text::texts_of_file;
 
-/// Writes a page.
-fn write_page<'a, W: Out>(
-    alloc: Global,
-    reviewed: &Reviewed<'_>,
-    out: &mut W,
-) -> Result<(), Fault<'a>>
-    requires { W.faults out.old < 2 ^ 64 - 1 }
-{
+/// The page of what was reviewed.
+fn page_of(alloc: Global, reviewed: &Reviewed<'_>) -> Result<Vec<u8>, Memory> {
     let sheet = sheet_of(alloc, reviewed)?;
     let mut html = Html::new(alloc);
     add_sheet(&mut html, &sheet);
-    write_all(out, html.as_page().finish()?)?;
-    Ok(())
+    Ok(Vec::from_slice(alloc, html.as_page().finish()?)?)
 }
 
-/// Writes the page of a task with a certificate that is given.
-fn write_given<'a, 'n, W: Out>(
-    alloc: Global,
-    task_name: &'n str,
-    cert_name: &'n str,
-    scene: Scene<'n>,
-    known: &'n KnownBounds,
-    out: &mut W,
-) -> Result<(), Fault<'a>>
-    requires { W.faults out.old < 2 ^ 64 - 1 }
-{
-    let reviewed = Reviewed {
-        task_file: task_name,
-        cert_file: Some(cert_name),
-        scene,
-        has_bounds: true,
-        findings: &known.findings,
-        outcome: if known.is_accepted {
-            Outcome::Accepted
-        } else {
-            Outcome::Refused
-        },
-    };
-    write_page(alloc, &reviewed, out)
-}
-
-/// Writes the page of texts that are judged.
-fn write_judged<'a, 'n, W: Out>(
-    alloc: Global,
-    task_name: &'n str,
-    cert_name: &'n str,
-    file: &'n [u8],
-    judged: &'n Judged,
-    out: &mut W,
-) -> Result<(), Fault<'a>>
-    requires { W.faults out.old < 2 ^ 64 - 1 }
-{
-    let claim = &judged.checked.claim;
-    let texts = texts_of_file(alloc, file, &claim.task)?;
-    let scene = Scene::new(file, &texts, &claim.task, &judged.known.expanded);
-    write_given(alloc, task_name, cert_name, scene, &judged.known, out)
-}
-
-/// Writes the page of a task by bounds that are known, and with an outcome.
-fn write_known<'a, 'n, W: Out>(
-    alloc: Global,
+/// A task with its file, and the bounds that are known of it.
+#[derive(Clone, Copy)]
+struct Shown<'n> {
     name: &'n str,
     file: &'n [u8],
     task: &'n Task,
     known: &'n KnownBounds,
-    outcome: Outcome<'n>,
-    out: &mut W,
-) -> Result<(), Fault<'a>>
-    requires { W.faults out.old < 2 ^ 64 - 1 }
-{
-    let texts = texts_of_file(alloc, file, task)?;
-    let reviewed = Reviewed {
-        task_file: name,
-        cert_file: None,
-        scene: Scene::new(file, &texts, task, &known.expanded),
-        has_bounds: known.has_bounds,
-        findings: &known.findings,
-        outcome,
-    };
-    write_page(alloc, &reviewed, out)
 }
 
-/// The page of a task with a run in which attackers break something.
-fn write_attack<'a, W: Out>(
-    alloc: Global,
-    name: &str,
-    file: &[u8],
-    task: &Task,
-    known: &KnownBounds,
-    found: &FoundAttack<'_>,
-    out: &mut W,
-) -> Result<(), Fault<'a>>
-    requires { W.faults out.old < 2 ^ 64 - 1 }
-{
-    let played = played_moves(alloc, &found.moves)?;
-    let outcome = Outcome::Attacked {
-        breach: &found.breach,
-        detail: &found.detail,
-        played: &played,
-    };
-    write_known(alloc, name, file, task, known, outcome, out)
-}
+impl<'n> Shown<'n> {
+    /// The page with a certificate that is given, if one is, and with an outcome.
+    fn page_with(
+        self,
+        alloc: Global,
+        cert: Option<&'n str>,
+        outcome: Outcome<'n>,
+    ) -> Result<Vec<u8>, Memory> {
+        let texts = texts_of_file(alloc, self.file, self.task)?;
+        let reviewed = Reviewed {
+            task_file: self.name,
+            cert_file: cert,
+            scene: Scene::new(self.file, &texts, self.task, &self.known.expanded),
+            has_bounds: self.known.has_bounds,
+            findings: &self.known.findings,
+            outcome,
+        };
+        page_of(alloc, &reviewed)
+    }
 
-/// The page of a task for which no certificate is found: with the run that breaks something, if one is found.
-fn write_unfound<'a, W: Out, P: Watcher>(
-    alloc: Global,
-    name: &str,
-    file: &[u8],
-    task: &Task,
-    known: &KnownBounds,
-    out: &mut W,
-    watcher: &mut P,
-) -> Result<(), Fault<'a>>
-    requires { W.faults out.old < 2 ^ 64 - 1 }
-{
-    let goals = goals_in(alloc, &known.findings)?;
-    let Ok(deeds) = Deeds::new(alloc, task) else {
-        return Err(Fault::Memory);
-    };
-    let bound = MOST_STATES as usize;
-    let Ok(explored) = explore(alloc, &*task, &deeds, &goals, bound, watcher) else {
-        return Err(Fault::Memory);
-    };
-    match explored {
-        Explored::Breaks(found) => {
-            write_known(alloc, name, file, task, known, Outcome::Broken(&found), out)
+    /// The page with a run in which attackers break something.
+    fn page_with_attack(self, alloc: Global, found: &FoundAttack<'_>) -> Result<Vec<u8>, Memory> {
+        let played = played_moves(alloc, &found.moves)?;
+        self.page_with(
+            alloc,
+            None,
+            Outcome::Attacked {
+                breach: &found.breach,
+                detail: &found.detail,
+                played: &played,
+            },
+        )
+    }
+
+    /// The page with what a search for a run came to: the run that breaks something, if one was found.
+    fn page_with_explored(self, alloc: Global, explored: &Explored<'_>) -> Result<Vec<u8>, Memory> {
+        match explored {
+            Explored::Breaks(found) => self.page_with(alloc, None, Outcome::Broken(found)),
+            Explored::Attacked(found) => self.page_with_attack(alloc, found),
+            Explored::Ended(_) | Explored::Bounded(_) => self.page_with(
+                alloc,
+                None,
+                Outcome::Undecided,
+            ),
         }
-        Explored::Attacked(found) => { write_attack(alloc, name, file, task, known, &found, out) }
-        Explored::Ended(_) | Explored::Bounded(_) => {
-            write_known(alloc, name, file, task, known, Outcome::Undecided, out)
-        }
+    }
+
+    /// The page of a task for which no certificate is found: with the run that breaks something, if one is found.
+    fn page_unfound<P: Watcher>(self, alloc: Global, watcher: &mut P) -> Result<Vec<u8>, Memory> {
+        let goals = goals_in(alloc, &self.known.findings)?;
+        let deeds = Deeds::new(alloc, self.task)?;
+        let bound = MOST_STATES as usize;
+        let explored = explore(alloc, self.task, &deeds, &goals, bound, watcher)?;
+        self.page_with_explored(alloc, &explored)
     }
 }
 
-/// The page of a task alone.
-fn write_searched<'a, W: Out, P: Watcher>(
+/// The page of a task's text alone.
+fn searched_page<'a, 'n, P: Watcher>(
     alloc: Global,
-    name: &str,
-    file: &[u8],
-    out: &mut W,
+    name: &'n str,
+    file: &'n [u8],
     watcher: &mut P,
-) -> Result<u8, Fault<'a>>
-    requires { W.faults out.old < 2 ^ 64 - 1 }
-    ensures { IfOk result (λ status. SaysFound status file.now) }
+) -> Result<Answer, Refusal<'a>>
+    ensures { IfOk result (λ answer. SaysFound answer.status file.now) }
 {
     let task = read_task(alloc, file)?;
     let known = known_bounds(alloc, &task)?;
+    let shown = Shown {
+        name,
+        file,
+        task: &task,
+        known: &known,
+    };
     if known.is_accepted {
-        write_known(alloc, name, file, &task, &known, Outcome::Accepted, out)?;
-        Ok(DONE)
+        let text = shown.page_with(alloc, None, Outcome::Accepted)?;
+        Ok(Answer::new(alloc, text, DONE))
     } else {
-        write_unfound(alloc, name, file, &task, &known, out, watcher)?;
-        Ok(BROKEN)
+        let text = shown.page_unfound(alloc, watcher)?;
+        Ok(Answer::new(alloc, text, BROKEN))
     }
 }
 
-/// Writes the page of a task with a certificate.
-pub(crate) fn answer_checked_page<'a, S: Source, W: Out>(
+/// The page of a task with a certificate.
+pub(crate) fn answer_checked_page<'a, S: Source>(
     alloc: Global,
     files: &mut S,
     task: &'a str,
     cert: &'a str,
-    out: &mut W,
-) -> Result<u8, Fault<'a>>
-    requires { W.faults out.old < 2 ^ 64 - 1 }
-    ensures says { IfOk result (λ status. SaysOfChecked (S.files files.old) task.now cert.now status) }
-    ensures done { IfOk result (λ status. is_done_status status ≡ true) }
+) -> Result<Answer, Refusal<'a>>
+    ensures { IfOk result (λ answer. SaysOfChecked (S.files files.old) task.now cert.now answer.status) }
 {
     let task_text = files.fetch(task)?;
     let cert_text = files.fetch(cert)?;
     let judged = judge_texts(alloc, &task_text, &cert_text)?;
-    write_judged(alloc, task, cert, &task_text, &judged, out)?;
-    Ok(judged.status)
+    let shown = Shown {
+        name: task,
+        file: &task_text,
+        task: &judged.checked.claim.task,
+        known: &judged.known,
+    };
+    let outcome = if judged.known.is_accepted {
+        Outcome::Accepted
+    } else {
+        Outcome::Refused
+    };
+    let text = shown.page_with(alloc, Some(cert), outcome)?;
+    Ok(Answer::new(alloc, text, judged.status))
 }
 
-/// Writes the page of a task alone.
-pub(crate) fn answer_page<'a, S: Source, W: Out, P: Watcher>(
+/// The page of a task alone.
+pub(crate) fn answer_page<'a, S: Source, P: Watcher>(
     alloc: Global,
     files: &mut S,
     task: &'a str,
-    out: &mut W,
     watcher: &mut P,
-) -> Result<u8, Fault<'a>>
-    requires { W.faults out.old < 2 ^ 64 - 1 }
-    ensures says { IfOk result (λ status. SaysOfSearch (S.files files.old) task.now status) }
-    ensures done { IfOk result (λ status. is_done_status status ≡ true) }
+) -> Result<Answer, Refusal<'a>>
+    ensures { IfOk result (λ answer. SaysOfSearch (S.files files.old) task.now answer.status) }
 {
     let task_text = files.fetch(task)?;
-    write_searched(alloc, task, &task_text, out, watcher)
+    searched_page(alloc, task, &task_text, watcher)
 }

@@ -1,18 +1,18 @@
 //! A plan, of recorded calls.
 
-ghost use Rattle.std.specs.Prelude.{◌≡◌, ◌⊎◌, ◌<◌, ◌-◌, ◌^◌, ◌++◌, IfOk, IfSome, None, OnErr, map, string_bytes, true};
+ghost use Rattle.std.specs.Prelude.{◌≡◌, ◌⊎◌, ◌++◌, IfOk, IfSome, map, string_bytes, true};
 ghost use Rattle.answers.specs.Planned.{HearsCalls, IsAcceptable, IsHonest, SaysPlanned, WritesPlan, check_words, heading, last_words, mark};
 ghost use Rattle.answers.specs.Planned.{marked_words, plan_text};
 ghost use Rattle.answers.specs.Learnt.{WritesNothing};
-ghost use Rattle.console.specs.Statuses.{is_done_status};
 ghost use Rattle.explain.specs.TaskTexts.{IsTaskText};
 
-use crate::learning::{calls_of_files, tell_nothing, why_nothing};
+use crate::answers::Answer;
+use crate::learning::{calls_of_files, nothing, why_nothing};
 use crate::refusals::Refusal;
 use console::Source;
 use console::statuses::{BROKEN, DONE};
 use learner::{LearnFault, Planned, add_names_left, plan};
-use rights::{Memory, Out, write_all};
+use rights::Memory;
 use searcher::propose;
 use std::alloc::Global;
 use task_reader::{TaskFault, read_task};
@@ -170,92 +170,63 @@ fn stated(alloc: Global, planned: &Planned, claim: Claim) -> Result<Option<Vec<u
     Ok(Some(text))
 }
 
-/// Writes a plan with what is claimed of it, if that is so, and gives the status.
+/// A plan with what is claimed of it, if that is so.
 #[tactic(auto, using(crate::proofs::PlannedLaws::accepted, crate::proofs::PlannedLaws::unfound))]
-fn write_claim<'a, W: Out>(
-    alloc: Global,
-    planned: &Planned,
-    claim: Claim,
-    out: &mut W,
-) -> Result<Option<u8>, Refusal<'a>>
-    requires { W.faults out.old < 2 ^ 64 - 1 }
-    ensures says { IfOk result (λ said. IfSome said (λ status. WritesPlan status (W.taken out.old) (W.taken out.new))) }
-    ensures done { IfOk result (λ said. IfSome said (λ status. is_done_status status ≡ true)) }
-    ensures none { IfOk result (λ said. said ≡ None → out.new ≡ out.old) }
+fn claimed(alloc: Global, planned: &Planned, claim: Claim) -> Result<Option<Answer>, Memory>
+    ensures { IfOk result (λ said. IfSome said (λ answer. WritesPlan answer.status answer.text.items)) }
 {
     let Some(text) = stated(alloc, planned, claim)? else {
         return Ok(None);
     };
-    write_all(out, &text)?;
     if claim.trusted {
-        Ok(Some(DONE))
+        Ok(Some(Answer::new(alloc, text, DONE)))
     } else {
-        Ok(Some(BROKEN))
+        Ok(Some(Answer::new(alloc, text, BROKEN)))
     }
 }
 
-/// Writes a plan with the strongest claim that is so; where its text isn't a task's, tells that on the error stream. Gives the status.
-#[tactic(auto, using(crate::proofs::PlannedLaws::nothing))]
-fn write_plan<'a, W: Out, V: Out>(
-    alloc: Global,
-    planned: &Planned,
-    out: &mut W,
-    err: &mut V,
-) -> Result<u8, Refusal<'a>>
-    requires out { W.faults out.old < 2 ^ 64 - 1 }
-    requires err { V.faults err.old < 2 ^ 64 - 1 }
-    ensures says { IfOk result (λ status. WritesPlan status (W.taken out.old) (W.taken out.new) ⊎ WritesNothing status (W.taken out.old) (W.taken out.new)) }
-    ensures done { IfOk result (λ status. is_done_status status ≡ true) }
-    ensures untold { OnErr result (err.new ≡ err.old) }
+/// A plan with the strongest claim that is so; where its text isn't a task's, that is told.
+fn strongest(alloc: Global, planned: &Planned) -> Result<Answer, Memory>
+    ensures { IfOk result (λ answer. WritesPlan answer.status answer.text.items ⊎ WritesNothing answer.status answer.text.items) }
 {
     for claim in CLAIMS {
-        if let Some(status) = write_claim(alloc, planned, claim, out)? {
-            return Ok(status);
+        if let Some(answer) = claimed(alloc, planned, claim)? {
+            return Ok(answer);
         }
     }
-    tell_nothing(alloc, "what comes of it isn't a task", err)
+    nothing(alloc, "what comes of it isn't a task")
 }
 
-/// Writes a plan of recorded calls, with the mode behind a line of the first file, or tells on the error stream why there is none, and gives
-/// the status: 0 where it says that a certificate of its task is accepted.
-#[tactic(auto, using(crate::proofs::PlannedLaws::planned))]
-pub(crate) fn answer_plan<'a, S: Source, W: Out, V: Out>(
+/// A plan of recorded calls, with the mode behind a line of the first file, or why there is none; the status is 0 where it says that a
+/// certificate of its task is accepted.
+#[tactic(auto, using(crate::proofs::PlannedLaws::planned, crate::proofs::PlannedLaws::nothing_planned))]
+pub(crate) fn answer_plan<'a, S: Source>(
     alloc: Global,
     files: &mut S,
     line: u32,
     names: &'a [String],
-    out: &mut W,
-    err: &mut V,
-) -> Result<u8, Refusal<'a>>
-    requires out { W.faults out.old < 2 ^ 64 - 1 }
-    requires err { V.faults err.old < 2 ^ 64 - 1 }
-    ensures says { IfOk result (λ status. SaysPlanned (S.files files.old) (map string_bytes names.now) status (W.taken out.old) (W.taken out.new)) }
-    ensures done { IfOk result (λ status. is_done_status status ≡ true) }
-    ensures untold { OnErr result (err.new ≡ err.old) }
+) -> Result<Answer, Refusal<'a>>
+    ensures { IfOk result (λ answer. SaysPlanned (S.files files.old) (map string_bytes names.now) answer.status answer.text.items) }
 {
     let records = calls_of_files(alloc, files, names)?;
     match plan(alloc, &records, line) {
-        Ok(planned) => write_plan(alloc, &planned, out, err),
+        Ok(planned) => Ok(strongest(alloc, &planned)?),
         Err(LearnFault::Memory) => Err(Refusal::from(Memory)),
-        Err(fault) => tell_nothing(alloc, why_nothing(fault), err),
+        Err(fault) => Ok(nothing(alloc, why_nothing(fault))?),
     }
 }
 
-/// Writes behind which lines of the first file fewer names are left that the mode refuses, and gives the status.
+/// Behind which lines of the first file fewer names are left that the mode refuses.
 #[tactic(auto, using(crate::proofs::PlannedLaws::heard))]
-pub(crate) fn answer_names_left<'a, S: Source, W: Out>(
+pub(crate) fn answer_names_left<'a, S: Source>(
     alloc: Global,
     files: &mut S,
     names: &'a [String],
-    out: &mut W,
-) -> Result<u8, Refusal<'a>>
-    requires { W.faults out.old < 2 ^ 64 - 1 }
-    ensures says { IfOk result (λ status. HearsCalls (S.files files.old) (map string_bytes names.now) status) }
-    ensures done { IfOk result (λ status. is_done_status status ≡ true) }
+) -> Result<Answer, Refusal<'a>>
+    ensures { IfOk result (λ answer. HearsCalls (S.files files.old) (map string_bytes names.now) answer.status) }
 {
     let records = calls_of_files(alloc, files, names)?;
     let mut page = Page::new(alloc);
     add_names_left(alloc, &records, &mut page)?;
-    write_all(out, page.finish()?)?;
-    Ok(DONE)
+    Ok(Answer::done(page)?)
 }

@@ -1,14 +1,13 @@
 //! The calls of a record of strace.
 
-ghost use Rattle.std.specs.Prelude.{◌≡◌, ◌<◌, ◌-◌, ◌^◌, [], IfOk, OnErr, true};
+ghost use Rattle.std.specs.Prelude.{◌≡◌, [], IfOk, true};
 ghost use Rattle.console.specs.Statuses.{is_done_status};
 ghost use Rattle.answers.specs.Answered.{SaysCalls, SaysWhether};
 
+use crate::answers::Answer;
 use crate::usage::NAME;
-use console::Fault;
 use console::statuses::{BROKEN, DONE};
 use records::{Recorded, recorded_calls, write_calls};
-use rights::{Out, write_all};
 use std::alloc::{AllocError, Global};
 use texts::{Page, parts_of, say};
 
@@ -51,31 +50,18 @@ fn status_of(misread: &[u32]) -> u8
     }
 }
 
-/// What is told of a record's other lines.
-fn others(alloc: Global, text: &[u8], recorded: &Recorded) -> Result<Vec<u8>, AllocError> {
-    let mut page = Page::new(alloc);
-    add_others(&mut page, text, recorded);
-    page.into_bytes()
-}
-
-/// Writes the calls of a record that `strace -f` has written, tells of its other lines on the error stream, and gives the status: 1 where lines aren't understood.
-pub(crate) fn answer_calls<'a, W: Out, V: Out>(
-    alloc: Global,
-    text: &[u8],
-    out: &mut W,
-    err: &mut V,
-) -> Result<u8, Fault<'a>>
-    requires out { W.faults out.old < 2 ^ 64 - 1 }
-    requires err { V.faults err.old < 2 ^ 64 - 1 }
-    ensures says { IfOk result (λ status. SaysCalls text.now status (W.taken out.old) (W.taken out.new)) }
-    ensures done { IfOk result (λ status. is_done_status status ≡ true) }
-    ensures untold { OnErr result (err.new ≡ err.old) }
+/// The calls of a record that `strace -f` has written, with its other lines told beside them; the status is 1 where lines aren't understood.
+pub(crate) fn answer_calls(alloc: Global, text: &[u8]) -> Result<Answer, AllocError>
+    ensures { IfOk result (λ answer. SaysCalls text.now answer.status answer.text.items) }
 {
     let recorded = recorded_calls(alloc, text)?;
-    let told = others(alloc, text, &recorded)?;
+    let mut told = Page::new(alloc);
+    add_others(&mut told, text, &recorded);
     let mut page = Page::new(alloc);
     write_calls(&mut page, &recorded.entries);
-    write_all(out, page.finish()?)?;
-    let _ = write_all(err, &told);
-    Ok(status_of(&recorded.misread))
+    Ok(Answer {
+        text: page.into_bytes()?,
+        told: told.into_bytes()?,
+        status: status_of(&recorded.misread),
+    })
 }

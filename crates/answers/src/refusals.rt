@@ -47,6 +47,12 @@ impl<'a> From<Stop> for Refusal<'a> {
     }
 }
 
+impl<'a> From<text_checker::Fault> for Refusal<'a> {
+    fn from(fault: text_checker::Fault) -> Refusal<'a> {
+        Refusal::Common(Fault::from(fault))
+    }
+}
+
 impl<'a> From<TaskFault> for Refusal<'a> {
     fn from(fault: TaskFault) -> Refusal<'a> {
         Refusal::Common(Fault::Task(fault))
