@@ -14,9 +14,10 @@ use Rattle.rules.specs.Expansions.{expansion}
 use Rattle.searcher.specs.Flat.{flat}
 use Rattle.task.specs.Plans.{Plan, program_name}
 use Rattle.task_reader.specs.Reading.{task_of}
-use Rattle.answers.specs.Answered.{SaysBroken, SaysFollowed, SaysFound, SaysNoTask, SaysOfSearch, SaysWhether}
+use Rattle.answers.specs.Answered.{Answers, AnswersWords, SaysBroken, SaysFollowed, SaysFound, SaysNoTask, SaysOfSearch, SaysWhether}
 use Rattle.answers.specs.NoAnswers.{LogSaysWhether, NoSaysWhether, NoneSaysWhether, RecordsAreHeard}
 use Rattle.answers.specs.PlacingWords.{placings_in}
+use Rattle.answers.specs.Questions.{Broken, Question, question_in}
 use Rattle.explain.specs.TaskTexts.{IsTaskText}
 use Rattle.explain.proofs.Covered.{some_told}
 use Rattle.explain.specs.Telling.{HasHead, Tells, point_with_line}
@@ -65,6 +66,25 @@ unfolding Tells
 not_silent plan c [] text tells is = let clash = sym tells ∙ is in cc
 not_silent plan c (f ∷ fs) text tells is = some_told plan c f fs tells.last tells.told tells.each (second_empty tells.before tells.told (sym tells.whole ∙ is))
 
+no_silence : (files : List ℕ → Option (List ℕ)) (task certificate : List ℕ) (status : ℕ) → Answers (Some files) (Broken task certificate) status [] → ⊥
+no_silence files task certificate status answers =
+    not_silent answers.says.plan (expansion answers.says.plan answers.says.bounds) (findings answers.says.plan (expansion answers.says.plan answers.says.bounds)) []
+    answers.says.tells refl
+
+-- What is told is written.
+added_nothing : (text more : List ℕ) → text ≡ text ++ more → more ≡ []
+added_nothing [] more is = sym is
+added_nothing (byte ∷ text) more is = added_nothing text more (let same = is in cc)
+
+no_unwritten : (files : List ℕ → Option (List ℕ)) (words : List (List ℕ)) (task certificate : List ℕ) (status : ℕ) (before : List ℕ)
+    → question_in words ≡ Some (Broken task certificate) → AnswersWords (Some files) words status (Some before) (Some before) → ⊥
+no_unwritten files words task certificate status before asked answers =
+    let none : answers.written ≡ [] = added_nothing before answers.written (same_some answers.writes) in
+    let is : answers.question ≡ Broken task certificate = same_some (sym answers.asked ∙ asked) in
+    no_silence files task certificate status
+    (subst (λ (written : List ℕ). Answers (Some files) (Broken task certificate) status written) none
+    (subst (λ (question : Question). Answers (Some files) question status answers.written) is answers.answered))
+
 pub no_says : NoSaysWhether
 no_says = record {
   refused = λ files task certificate text bounds_text plan bounds written is_text is_bounds is_task is_certificate refused answers.
@@ -73,9 +93,8 @@ no_says = record {
   accepted = λ files task certificate text bounds_text plan bounds written is_text is_bounds is_task is_certificate accepted answers.
       refused_if text bounds_text plan bounds is_task is_certificate answers.text answers.bounds_text written
       (same_some (sym answers.is_file ∙ is_text)) (same_some (sym answers.is_bounds ∙ is_bounds)) answers.says accepted;
-  silent = λ files task certificate status answers.
-      not_silent answers.says.plan (expansion answers.says.plan answers.says.bounds) (findings answers.says.plan (expansion answers.says.plan answers.says.bounds)) []
-      answers.says.tells refl;
+  silent = no_silence;
+  unwritten = no_unwritten;
   headless = no_head;
 }
 

@@ -1,5 +1,5 @@
 -- What is no answer. (own)
-use Rattle.std.specs.Prelude.{◌≡◌, ℕ, Bool, false, true, List, [], ◌∷◌, ◌++◌, Option, Some, None, Ok}
+use Rattle.std.specs.Prelude.{◌≡◌, ℕ, Bool, false, true, List, [], ◌∷◌, Option, Some, None, Ok}
 use Rattle.certificate.specs.Bounds.{Certificate}
 use Rattle.certificate_text.specs.Readings.{certificate_of_text}
 use Rattle.checker.specs.Findings.{BrokenRule}
@@ -10,14 +10,14 @@ use Rattle.records.specs.Readings.{calls_of_text}
 use Rattle.searcher.specs.Flat.{flat}
 use Rattle.task.specs.Plans.{Plan}
 use Rattle.task_reader.specs.Reading.{task_of}
-use Rattle.answers.specs.Answered.{Answers}
+use Rattle.answers.specs.Answered.{Answers, AnswersWords}
 use Rattle.answers.specs.PlacingWords.{placings_in}
 use Rattle.answers.specs.Planned.{IsHonest, marked_text}
-use Rattle.answers.specs.Questions.{Broken, Calls, Followed, Learnt, Log, Planned, Unfound}
+use Rattle.answers.specs.Questions.{Broken, Calls, Followed, Learnt, Log, Planned, Unfound, question_in}
 use Rattle.explain.specs.TaskTexts.{IsTaskText}
 use Rattle.explain.specs.Telling.{HasHead}
 
--- status 0 to `no` of a certificate that isn't accepted, and 1 of one that is; nothing written; and a finding without its point
+-- status 0 to `no` of a certificate that isn't accepted, and 1 of one that is; an empty answer; one that isn't written; and a finding without its point
 pub record NoSaysWhether : Type 0 where
   pub refused : (files : List ℕ → Option (List ℕ)) (task certificate text bounds_text : List ℕ) (plan : Plan) (bounds : Certificate) (written : List ℕ)
       → files task ≡ Some text → files certificate ≡ Some bounds_text → task_of text ≡ Ok plan → certificate_of_text bounds_text ≡ Ok bounds
@@ -27,6 +27,8 @@ pub record NoSaysWhether : Type 0 where
       → IsAccepted plan bounds → Answers (Some files) (Broken task certificate) 1 written → ⊥
   pub silent : (files : List ℕ → Option (List ℕ)) (task certificate : List ℕ) (status : ℕ)
       → Answers (Some files) (Broken task certificate) status [] → ⊥
+  pub unwritten : (files : List ℕ → Option (List ℕ)) (words : List (List ℕ)) (task certificate : List ℕ) (status : ℕ) (before : List ℕ)
+      → question_in words ≡ Some (Broken task certificate) → AnswersWords (Some files) words status (Some before) (Some before) → ⊥
   pub headless : (plan : Plan) (f : BrokenRule) → HasHead plan f false [] → ⊥
 
 -- status 0 to `none` of a task that no certificate fits, and 1 of one whose flat certificate is accepted

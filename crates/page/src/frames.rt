@@ -137,7 +137,9 @@ impl Block {
 
     /// Adds a line: a head, and behind it, from a column on, a tail. What there is no room for is left out.
     pub fn add(&mut self, head: Words<'_>, column: usize, tail: Words<'_>)
-        ensures { self.new.room ≡ self.old.room }
+        ensures room { self.new.room ≡ self.old.room }
+        ensures line { self.old.height ≤ 1_000_000 → self.old.height + 18 ≤ self.new.height }
+        ensures grows { self.old.height ≤ self.new.height }
     {
         if self.height > MAX_HEIGHT {
             return;
