@@ -2,6 +2,7 @@
 use Rattle.std.proofs.Common.{◌≡◌, refl}
 use Rattle.std.specs.Fmt.{digits}
 use Rattle.std.specs.Prelude.{ℕ, true, false, List, [], ◌∷◌, ◌++◌, codes, Some, None, Ok}
+use Rattle.records.specs.Beginnings.{first_processes}
 use Rattle.records.specs.Calls.{Directory, RecordedCalls, are_calls}
 use Rattle.records.specs.Named.{call_of_word, error_of_word, reason_of_word}
 use Rattle.records.specs.Quoted.{effect, quoted, unquoted}
@@ -9,8 +10,8 @@ use Rattle.records.specs.Readings.{Form, Counts, NoEnd, Behind, bindings_of, cal
 use Rattle.records.specs.Readings.{real_operand_at, operands_at, outcome_at, calls_behind, read_last, record_span_at, binding_step, wanted_of}
 use Rattle.records.specs.Sets.{flag_set, request_of_set, request_of_word, set_of_list, set_word}
 use Rattle.records.specs.Texts.{calls_text, counts_line, entry_text}
-use Rattle.records.proofs.Samples.{ends, finds_none, finds_none_line, limits, limits_commands, makes_pair, makes_pair_line}
-use Rattle.records.proofs.Samples.{maps_file, opens_file, opens_file_line, reads_bytes, reads_bytes_line, removes, takes_memory, text}
+use Rattle.records.proofs.Samples.{by, ends, finds_none, finds_none_line, limits, limits_commands, makes_pair, makes_pair_line}
+use Rattle.records.proofs.Samples.{forks, maps_file, opens_file, opens_file_line, reads_bytes, reads_bytes_line, removes, takes_memory, text}
 
 -- LINES: the text of an entry
 
@@ -248,3 +249,11 @@ unfolding calls_of_text calls_behind read_last counts_line entry_of_text entry_o
     outcome_at bindings_of binding_step record_span_at wanted_of call_of_word error_of_word reason_of_word entry_text quoted unquoted effect set_word set_of_list flag_set
     request_of_set request_of_word digits
 no-first = (refl, refl, refl)
+
+-- BEGINNINGS: a process that a call makes is none of the first ones, even where it is told before that; one of which all is left out isn't either
+
+first-ones : first_processes (by 542 ends ∷ opens_file ∷ by 541 reads_bytes ∷ forks 542 ∷ by 543 maps_file ∷ opens_file ∷ []) ≡ 540 ∷ 541 ∷ []
+first-ones = refl
+
+first-none : first_processes (by 543 maps_file ∷ []) ≡ []
+first-none = refl

@@ -105,3 +105,10 @@ takes_memory = entry 2 2 (Omitted (record { reason = Quiet; name = codes "brk"; 
 
 abbrev pub ends : RecordEntry
 ends = entry 99 99 Ended
+
+-- an entry of another process, and a fork that makes one
+abbrev pub by : ℕ → RecordEntry → RecordEntry
+by process e = record e { process = process }
+
+abbrev pub forks : ℕ → RecordEntry
+forks child = entry 12 12 (Called (record { call = calls.Fork; operands = []; outcome = Succeeds child; bindings = []; bytes = None }))

@@ -16,3 +16,4 @@ pub mod CallsViews
 pub mod CountViews
 pub mod Accounts
 pub mod GivenViews
+pub mod Beginnings

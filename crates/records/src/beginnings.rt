@@ -1,24 +1,70 @@
 //! The processes with which a record begins.
 
+ghost use Rattle.std.specs.Prelude.{◌≡◌, ◌++◌, IfOk, OnOk};
+ghost use Rattle.std.specs.List.{flat_map};
+ghost use Rattle.records.specs.Accounts.{is_listed as is_listed_in};
+ghost use Rattle.records.specs.Beginnings.{begins, children_in, first_processes};
+ghost use Rattle.records.specs.Calls.{RecordEntry};
+ghost use Rattle.records.specs.EntryViews.{calls_seen, event_seen, record_entry_seen};
+
 use crate::entries::{Entry, Event, Outcome};
 use rights::{Call, Memory};
 use std::alloc::Global;
 
-/// The processes of a record that none of its calls makes, in the order in which they come.
-pub fn first_processes(alloc: Global, entries: &[Entry]) -> Result<Vec<u32>, Memory> {
-    let mut made = Vec::new(alloc);
-    for entry in entries {
-        if let Event::Called(call) = &entry.event {
-            if let (Call::Fork, Outcome::Success(child)) = (call.call, call.outcome) {
-                made.push(child)?;
-            }
+/// Adds the process that an event has made, if it is a fork that succeeded.
+fn add_child(made: &mut Vec<u32>, event: &Event) -> Result<(), Memory>
+    ensures { OnOk result (made.new.items ≡ made.old.items ++ children_in (event_seen event.now)) }
+{
+    if let Event::Called(call) = event {
+        if let (Call::Fork, Outcome::Success(child)) = (call.call, call.outcome) {
+            made.push(child)?;
         }
     }
+    Ok(())
+}
+
+/// The processes that calls of a record have made.
+fn children_of(alloc: Global, entries: &[Entry]) -> Result<Vec<u32>, Memory>
+    ensures { IfOk result (λ made. made.items ≡ flat_map (λ (entry : RecordEntry). children_in entry.event) (calls_seen entries.now)) }
+{
+    let mut made = Vec::new(alloc);
+    for entry in entries {
+        add_child(&mut made, &entry.event)?;
+    }
+    Ok(made)
+}
+
+/// Whether a number is one of these.
+fn is_listed(number: u32, numbers: &[u32]) -> bool
+    ensures { result ≡ is_listed_in number numbers.now }
+{
+    for other in numbers {
+        if *other == number {
+            return true;
+        }
+    }
+    false
+}
+
+/// Whether an entry is of a process that no call has made, and that isn't known so far.
+fn begins(made: &[u32], known: &[u32], entry: &Entry) -> bool
+    ensures { result ≡ begins made.now known.now (record_entry_seen entry.now) }
+{
+    let is_told = match entry.event {
+        Event::Called(_) | Event::Ended => true,
+        Event::Omitted(_) => false,
+    };
+    is_told && !is_listed(entry.process, made) && !is_listed(entry.process, known)
+}
+
+/// The processes of a record that none of its calls makes, in the order in which they come. Want of memory is the only error. (own)
+pub fn first_processes(alloc: Global, entries: &[Entry]) -> Result<Vec<u32>, Memory>
+    ensures { IfOk result (λ first. first.items ≡ first_processes (calls_seen entries.now)) }
+{
+    let made = children_of(alloc, entries)?;
     let mut first = Vec::new(alloc);
     for entry in entries {
-        let is_counted = !matches!(entry.event, Event::Omitted(_));
-        let is_known = made.contains(&entry.process) || first.contains(&entry.process);
-        if is_counted && !is_known {
+        if begins(&made, &first, entry) {
             first.push(entry.process)?;
         }
     }

@@ -207,8 +207,8 @@ pub(crate) fn take(run: &mut Run, seen: &SeenCall<'_>, form: OnDescriptor) -> Op
         OnDescriptor::CloseRange => return add_close_range(run, seen, mention),
         OnDescriptor::Fcntl => return add_fcntl(run, seen, mention),
         OnDescriptor::Ioctl => return add_ioctl(run, seen, mention),
-        OnDescriptor::LimitRights => return limiting::take(run, seen, mention, true),
-        OnDescriptor::LimitCommands => return limiting::take(run, seen, mention, false),
+        OnDescriptor::LimitRights => return limiting::take_rights(run, seen, mention),
+        OnDescriptor::LimitCommands => return limiting::take_commands(run, seen, mention),
     }
     None
 }

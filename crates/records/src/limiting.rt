@@ -2,6 +2,7 @@
 
 use crate::argument_values::Mention;
 use crate::entries::Reason;
+use crate::known::Known;
 use crate::real_calls::Given;
 use crate::runs::Run;
 use crate::seen_calls::SeenCall;
@@ -30,11 +31,9 @@ fn spelt(name: &[u8]) -> &[u8] {
     name
 }
 
-/// Adds the names in braces that an argument lists, as `{ CAP_READ,CAP_SEEK }`, without this beginning. Whether it lists any is told.
-fn add_listed(page: &mut Page, argument: &[u8], beginning: &[u8]) -> bool {
-    let Some(mut rest) = between(without_spaces(argument), b"{", b"}") else {
-        return false;
-    };
+/// Adds the names of a list, without this beginning, each behind a comma.
+fn add_names(page: &mut Page, list: &[u8], beginning: &[u8]) {
+    let mut rest = list;
     for _ in 0..MOST_NAMES {
         let (part, behind) = first_part(rest, b',');
         let (word, _blanks) = first_part(without_spaces(part), b' ');
@@ -43,45 +42,55 @@ fn add_listed(page: &mut Page, argument: &[u8], beginning: &[u8]) -> bool {
             page.bytes(spelt(name));
         }
         let Some(behind) = behind else {
-            break;
+            return;
         };
         rest = behind;
     }
-    true
 }
 
-/// Takes a limit with these names.
-fn add_limit(
+/// The names in braces that an argument lists, as `{ CAP_READ,CAP_SEEK }`, without this beginning, if it lists any.
+fn listed(known: &mut Known, argument: &[u8], beginning: &[u8]) -> Option<Page> {
+    let Some(list) = between(argument, b"{", b"}") else {
+        return None;
+    };
+    let mut page = Page::new(known.alloc);
+    add_names(&mut page, list, beginning);
+    known.note(&page);
+    Some(page)
+}
+
+/// Takes a limit of the rights of a descriptor. Why it is left out is told, if it is.
+pub(crate) fn take_rights(
     run: &mut Run,
     seen: &SeenCall<'_>,
     mention: Mention<'_>,
-    of_rights: bool,
-    page: &mut Page,
 ) -> Option<Reason> {
-    let beginning: &[u8] = if of_rights { b"CAP_" } else { b"CAP_FCNTL_" };
-    if !add_listed(page, seen.argument(1), beginning) {
+    let Some(names) = listed(&mut run.known, seen.argument(1), b"CAP_") else {
         return Some(Reason::Unknown);
-    }
-    run.known.note(page);
-    let number = Given::Number(mention.number);
+    };
+    let given = [
+        Given::Number(mention.number),
+        Given::Rights(names.as_bytes()),
+    ];
     let about = [Some(mention), None];
-    if of_rights {
-        let given = [number, Given::Rights(page.as_bytes())];
-        run.add(seen, Call::CapRightsLimit, &given, seen.outcome, about);
-    } else {
-        let given = [number, Given::Commands(page.as_bytes())];
-        run.add(seen, Call::CapFcntlsLimit, &given, seen.outcome, about);
-    }
+    run.add(seen, Call::CapRightsLimit, &given, seen.outcome, about);
     None
 }
 
-/// Takes a limit of the rights of a descriptor, or of its fcntl commands. Why it is left out is told, if it is.
-pub(crate) fn take(
+/// Takes a limit of the fcntl commands of a descriptor, likewise.
+pub(crate) fn take_commands(
     run: &mut Run,
     seen: &SeenCall<'_>,
     mention: Mention<'_>,
-    of_rights: bool,
 ) -> Option<Reason> {
-    let mut page = Page::new(run.known.alloc);
-    add_limit(run, seen, mention, of_rights, &mut page)
+    let Some(names) = listed(&mut run.known, seen.argument(1), b"CAP_FCNTL_") else {
+        return Some(Reason::Unknown);
+    };
+    let given = [
+        Given::Number(mention.number),
+        Given::Commands(names.as_bytes()),
+    ];
+    let about = [Some(mention), None];
+    run.add(seen, Call::CapFcntlsLimit, &given, seen.outcome, about);
+    None
 }
