@@ -26,18 +26,12 @@ pub(crate) fn stand_in(pairs: &[ProcessPair], real: u32) -> Option<u8> {
 }
 
 /// Whether the call at which a process stands is that of the record, given the same.
-pub(crate) fn may_show(
-    search: &Search<'_>,
-    lead: &Lead<'_>,
-    process: u8,
-    call: &Syscall,
-    made: &MadeCall,
-) -> bool {
+pub(crate) fn may_show(lead: &Lead<'_>, process: u8, call: &Syscall, made: &MadeCall) -> bool {
     let Some(state) = lead.process(process) else {
         return false;
     };
     let names = Names {
-        placings: search.placings,
+        placings: lead.search.placings,
         namings: &lead.standing.namings,
         process: usize::from(process),
     };
@@ -47,7 +41,6 @@ pub(crate) fn may_show(
 /// Adds the run in which the call of a process shows this call, the entry of a place, also where the kernel refuses it, and where it
 /// doesn't, those in which the world moves first.
 fn add_call<'a>(
-    search: &Search<'a>,
     lead: &Lead<'a>,
     process: u8,
     call: &Syscall,
@@ -62,33 +55,26 @@ fn add_call<'a>(
             refuse: true,
             ..event
         };
-        found.add_tried(search, lead, Trial::Step { event, shows });
+        found.add_tried(lead, Trial::Step { event, shows });
     }
     let trial = Trial::Step { event, shows };
-    if !found.add_tried(search, lead, trial) && may_help(lead, process, call) {
-        add_by_world(search, lead, trial, found);
+    if !found.add_tried(lead, trial) && may_help(lead, process, call) {
+        add_by_world(lead, trial, found);
     }
 }
 
 /// Adds the runs in which a process shows the entry of a place.
-fn add_shown<'a>(
-    search: &Search<'a>,
-    lead: &Lead<'a>,
-    process: u8,
-    entry: &Entry,
-    at: usize,
-    found: &mut Leads<'a>,
-) {
-    match (&entry.event, lead.instruction(search.task, process)) {
+fn add_shown<'a>(lead: &Lead<'a>, process: u8, entry: &Entry, at: usize, found: &mut Leads<'a>) {
+    match (&entry.event, lead.instruction(process)) {
         (Recorded::Called(made), Some(Instruction::Invoke { call, .. })) => {
-            if may_show(search, lead, process, call, made) {
-                add_call(search, lead, process, call, made, at, found);
+            if may_show(lead, process, call, made) {
+                add_call(lead, process, call, made, at, found);
             }
         }
         (Recorded::Ended, Some(Instruction::Halt)) => {
             let event = event_of(process, 0);
             let shows = Some(at);
-            found.add_tried(search, lead, Trial::Step { event, shows });
+            found.add_tried(lead, Trial::Step { event, shows });
         }
         _ => {}
     }
@@ -155,31 +141,39 @@ fn is_handed_on(code: &[Instruction], register: Register) -> bool {
     false
 }
 
+/// The first byte that isn't among these, or the last one.
+fn other_byte(bytes: &[u8]) -> u8 {
+    let mut other: u8 = 0;
+    for _ in 0..u8::MAX {
+        if !bytes.contains(&other) {
+            break;
+        }
+        other = other.saturating_add(1);
+    }
+    other
+}
+
 /// The bytes that are tried where a process reads one into this register: those with which the comparisons right behind it are, and
 /// another one; where the register is handed on, those of all comparisons of the task, too.
 fn inputs(search: &Search<'_>, state: &Process, register: Register) -> Page {
     let mut bytes = Page::new(search.alloc);
     let code = code_of(search.task.programs(), state.program);
-    if let Some(behind) = code.get(usize::from(state.point) + 1..) {
-        add_first(&mut bytes, behind, register);
+    let behind = usize::from(state.point) + 1;
+    if behind <= code.len() {
+        add_first(&mut bytes, &code[behind..], register);
     }
     if is_handed_on(code, register) {
         for named in search.task.programs() {
             add_all(&mut bytes, named.program.code());
         }
     }
-    for byte in 0..=255 {
-        if !bytes.as_bytes().contains(&byte) {
-            bytes.bytes(&[byte]);
-            break;
-        }
-    }
+    let other = other_byte(bytes.as_bytes());
+    add_byte(&mut bytes, u32::from(other));
     bytes
 }
 
 /// Adds the runs in which a process reads a byte into this register: one for each that is tried.
 pub(crate) fn add_reading<'a>(
-    search: &Search<'a>,
     lead: &Lead<'a>,
     process: u8,
     register: Register,
@@ -189,7 +183,7 @@ pub(crate) fn add_reading<'a>(
     let Some(state) = lead.process(process) else {
         return;
     };
-    let bytes = inputs(search, state, register);
+    let bytes = inputs(&lead.search, state, register);
     found.is_short = found.is_short || bytes.finish().is_err();
     for input in bytes.as_bytes() {
         let event = event_of(process, *input);
@@ -198,27 +192,27 @@ pub(crate) fn add_reading<'a>(
         } else {
             Trial::Step { event, shows: None }
         };
-        found.add_tried(search, lead, trial);
+        found.add_tried(lead, trial);
     }
 }
 
 /// Adds the runs in which a process reads a byte, if it stands there: those first in which it may show its next call then, and none in
 /// which it is stuck, if it isn't in all.
-fn add_inputs<'a>(search: &Search<'a>, lead: &Lead<'a>, process: u8, found: &mut Leads<'a>) {
-    if let Some(Instruction::In { register }) = lead.instruction(search.task, process) {
+fn add_inputs<'a>(lead: &Lead<'a>, process: u8, found: &mut Leads<'a>) {
+    if let Some(Instruction::In { register }) = lead.instruction(process) {
         let first = found.runs.len();
-        add_reading(search, lead, process, *register, false, found);
-        found.prefer_showing(search, process, first);
+        add_reading(lead, process, *register, false, found);
+        found.prefer_showing(process, first);
     }
 }
 
 /// Adds the run in which a process makes a call that shows nothing, if it may be one.
-fn add_repeated<'a>(search: &Search<'a>, lead: &Lead<'a>, process: u8, found: &mut Leads<'a>) {
-    if let Some(Instruction::Invoke { call, .. }) = lead.instruction(search.task, process) {
+fn add_repeated<'a>(lead: &Lead<'a>, process: u8, found: &mut Leads<'a>) {
+    if let Some(call) = lead.call(process) {
         let call = call.call();
         if is_of_mode(call) || matches!(call, Call::Read | Call::Write) {
             let event = event_of(process, 0);
-            found.add_tried(search, lead, Trial::Step { event, shows: None });
+            found.add_tried(lead, Trial::Step { event, shows: None });
         }
     }
 }
@@ -233,7 +227,7 @@ enum Turn {
 }
 
 /// Adds the runs of this turn that may come next at the entry of a place.
-fn add_at<'a>(search: &Search<'a>, lead: &Lead<'a>, turn: Turn, at: usize, found: &mut Leads<'a>) {
+fn add_at<'a>(lead: &Lead<'a>, turn: Turn, at: usize, found: &mut Leads<'a>) {
     let Some(entry) = next_entry(&lead.standing.left, at) else {
         return;
     };
@@ -241,26 +235,26 @@ fn add_at<'a>(search: &Search<'a>, lead: &Lead<'a>, turn: Turn, at: usize, found
         return;
     };
     match turn {
-        Turn::Shown => add_shown(search, lead, process, entry, at, found),
-        Turn::Bytes => add_inputs(search, lead, process, found),
+        Turn::Shown => add_shown(lead, process, entry, at, found),
+        Turn::Bytes => add_inputs(lead, process, found),
         Turn::Skipped => {
-            found.add_tried(search, lead, Trial::Skip(at));
+            found.add_tried(lead, Trial::Skip(at));
         }
-        Turn::Repeated => add_repeated(search, lead, process, found),
+        Turn::Repeated => add_repeated(lead, process, found),
     }
 }
 
 /// Adds the runs of this turn that may come next.
-fn add_turn<'a>(search: &Search<'a>, lead: &Lead<'a>, turn: Turn, found: &mut Leads<'a>) {
+fn add_turn<'a>(lead: &Lead<'a>, turn: Turn, found: &mut Leads<'a>) {
     for at in 0..MOST_NEXT {
-        add_at(search, lead, turn, at, found);
+        add_at(lead, turn, at, found);
     }
 }
 
 /// Adds the runs that may come next, those that show a call first.
-pub(crate) fn add_branches<'a>(search: &Search<'a>, lead: &Lead<'a>, found: &mut Leads<'a>) {
-    add_turn(search, lead, Turn::Shown, found);
-    add_turn(search, lead, Turn::Bytes, found);
-    add_turn(search, lead, Turn::Skipped, found);
-    add_turn(search, lead, Turn::Repeated, found);
+pub(crate) fn add_branches<'a>(lead: &Lead<'a>, found: &mut Leads<'a>) {
+    add_turn(lead, Turn::Shown, found);
+    add_turn(lead, Turn::Bytes, found);
+    add_turn(lead, Turn::Skipped, found);
+    add_turn(lead, Turn::Repeated, found);
 }

@@ -1,35 +1,32 @@
 //! The search for a run of a task that shows the calls of a record.
 
-ghost use Rattle.std.specs.Prelude.{IfOk};
+ghost use Rattle.std.specs.Prelude.{IfOk, IfSome};
 ghost use Rattle.records.specs.EntryViews.{calls_seen};
 ghost use Rattle.follow.specs.FollowedViews.{IsFollowed};
-ghost use Rattle.follow.specs.Views.{placings_of};
+ghost use Rattle.follow.specs.Shows.{IsShown};
+ghost use Rattle.follow.specs.Views.{placings_of, witness_of};
 
 use crate::branching::{add_branches, stand_in};
 use crate::checking::shows;
 use crate::digests::digest_of;
-use crate::leads::{Lead, Leads, Search, event_of};
+use crate::leads::{Lead, Leads, Search};
 use crate::numbers::ProcessPair;
 use crate::places::Placing;
 use crate::standing::{Standing, has_limiting};
-use crate::witnesses::{Move, Witness};
+use crate::witnesses::Witness;
 use indexmap::IndexSet;
-use link_tree::LinkTree;
 use records::{Entry, first_processes};
 use rights::Memory;
-use simulator::{LineResult, Machine};
+use simulator::LineResult;
 use std::alloc::Global;
 use std::mem;
-use task::Task;
+use task::{Start, Task};
 
 /// How many runs are kept at most that may be gone on with.
 const MOST_KEPT: usize = 512;
 
 /// How many points are told at most.
 const MOST_POINTS: usize = 16;
-
-/// How many events are run at most to tell what a process would do.
-const MOST_LOOKUPS: usize = 32_768;
 
 /// What a process of the task would do where a search has come furthest.
 #[derive(Clone, Copy, PartialEq, Eq)]
@@ -68,9 +65,10 @@ pub enum Followed {
 /// The search on its way.
 #[derive(Drop)]
 struct Trail<'a> {
-    /// The runs that may be gone on with, and the moves of the way to the one that was last.
+    /// The runs that may be gone on with.
     leads: Leads<'a>,
-    way: Vec<Move>,
+    /// The moves of the way to the one that was last, and, where that shows all, the processes that stand for the record's.
+    way: Witness,
     /// The runs that come next behind that one.
     next: Leads<'a>,
     met: IndexSet<u128>,
@@ -80,34 +78,38 @@ struct Trail<'a> {
     points: Vec<AtPoint>,
 }
 
-/// Has the first processes of the task, but for those of a program `world`, stand for those of the record, in this order.
-fn first_pairs(alloc: Global, task: &Task, entries: &[Entry]) -> Result<Vec<ProcessPair>, Memory> {
-    let first = first_processes(alloc, entries)?;
+/// Nothing that shows anything.
+fn no_witness(alloc: Global) -> Witness {
+    Witness {
+        pairs: Vec::new(alloc),
+        moves: Vec::new(alloc),
+    }
+}
+
+/// Whether a process of the task is of a program `world`.
+fn is_of_world(task: &Task, start: &Start) -> bool {
+    task.program_name(start.program) == b"world".as_slice()
+}
+
+/// Has the processes with which the task starts, but for those of a program `world`, stand for these of the record, in this order.
+fn pairs_of(alloc: Global, task: &Task, first: &[u32]) -> Result<Vec<ProcessPair>, Memory> {
     let mut pairs = Vec::new(alloc);
-    for (number, start) in task.starts().iter().enumerate() {
-        if task.program_name(start.program) == b"world".as_slice() {
-            continue;
+    let mut model: u8 = 0;
+    for start in task.starts() {
+        let at = pairs.len();
+        if at < first.len() && !is_of_world(task, start) {
+            let real = first[at];
+            pairs.push(ProcessPair { real, model })?;
         }
-        if let (Some(real), Ok(model)) = (first.get(pairs.len()), u8::try_from(number)) {
-            pairs.push(ProcessPair { real: *real, model })?;
-        }
+        model = model.saturating_add(1);
     }
     Ok(pairs)
 }
 
-/// What a process does next in a run, from its names to the end of its call.
-fn outcome_in<'a>(task: &'a Task, lead: &mut Lead<'a>, process: u8) -> LineResult {
-    let mut outcome = LineResult::Ended;
-    for _ in 0..MOST_LOOKUPS {
-        let Some(seen) = lead.watch(task, event_of(process, 0)) else {
-            break;
-        };
-        outcome = seen.outcome;
-        if !matches!(outcome, LineResult::Walking) {
-            break;
-        }
-    }
-    outcome
+/// Has the processes with which the task starts stand so for those with which the record does.
+fn first_pairs(alloc: Global, task: &Task, entries: &[Entry]) -> Result<Vec<ProcessPair>, Memory> {
+    let first = first_processes(alloc, entries)?;
+    pairs_of(alloc, task, &first)
 }
 
 impl<'a> Trail<'a> {
@@ -122,12 +124,8 @@ impl<'a> Trail<'a> {
     }
 
     /// Notes the point at which a process of a run stands, and what its instruction comes to.
-    fn note(&mut self, search: &Search<'a>, lead: &Lead<'a>, process: u8) {
+    fn note(&mut self, lead: &Lead<'a>, process: u8) {
         let Some(state) = lead.process(process) else {
-            return;
-        };
-        let Ok(mut run) = lead.copy(search.alloc) else {
-            self.leads.is_short = true;
             return;
         };
         let point = AtPoint {
@@ -135,11 +133,23 @@ impl<'a> Trail<'a> {
             program: state.program,
             point: state.point,
             in_mode: state.mode(),
-            outcome: outcome_in(search.task, &mut run, process),
+            outcome: self.next.outcome_behind(lead, process),
         };
-        let is_refused = !self.points.contains(&point) && self.points.push(point).is_err();
-        if is_refused || run.is_short {
+        if !self.points.contains(&point) && self.points.push(point).is_err() {
             self.leads.is_short = true;
+        }
+    }
+
+    /// Notes where the process of the next entry stands, if no run has come further.
+    fn note_end(&mut self, lead: &Lead<'a>) {
+        let left = &lead.standing.left;
+        if left.len() > self.fewest || self.points.len() >= MOST_POINTS {
+            return;
+        }
+        if let Some(entry) = left.first() {
+            if let Some(process) = stand_in(&lead.pairs, entry.process) {
+                self.note(lead, process);
+            }
         }
     }
 
@@ -155,87 +165,86 @@ impl<'a> Trail<'a> {
     }
 
     /// Keeps the runs that come next behind a run, or notes where it stands, if none has come further.
-    fn branch(&mut self, search: &Search<'a>, lead: &Lead<'a>) {
+    fn branch(&mut self, lead: &Lead<'a>) {
         self.reach(lead);
-        add_branches(search, lead, &mut self.next);
-        self.leads.is_short = self.leads.is_short || self.next.is_short;
-        if !self.next.runs.is_empty() {
+        add_branches(lead, &mut self.next);
+        if self.next.runs.is_empty() {
+            self.note_end(lead);
+        } else {
             self.keep();
-            return;
         }
-        let left = &lead.standing.left;
-        if left.len() <= self.fewest && self.points.len() < MOST_POINTS {
-            if let Some(entry) = left.first() {
-                if let Some(process) = stand_in(&lead.pairs, entry.process) {
-                    self.note(search, lead, process);
-                }
+    }
+
+    /// Moves the last moves of a run to the way.
+    fn take_moves(&mut self, lead: &mut Lead<'a>) {
+        let way = &mut self.way.moves;
+        way.truncate(lead.base);
+        if way.extend_from_slice(&lead.moves).is_err() {
+            self.leads.is_short = true;
+        }
+        lead.moves.clear();
+        lead.base = way.len();
+    }
+
+    /// Whether a run wasn't met before.
+    fn is_new(&mut self, lead: &Lead<'a>) -> bool {
+        match self.met.insert_full(digest_of(lead)) {
+            Ok((_, is_new)) => is_new,
+            Err(_) => {
+                self.leads.is_short = true;
+                false
             }
         }
     }
 
     /// Goes on with a run, up to where each process makes its next call. Whether it shows all is told.
-    fn go_on(&mut self, search: &Search<'a>, lead: &mut Lead<'a>) -> bool {
-        lead.settle(search);
-        self.way.truncate(lead.base);
-        let is_refused = self.way.extend_from_slice(&lead.moves).is_err();
-        lead.moves.clear();
-        lead.base = self.way.len();
-        if is_refused || lead.is_short {
+    fn go_on(&mut self, lead: &mut Lead<'a>) -> bool {
+        lead.settle();
+        self.take_moves(lead);
+        if lead.is_short {
             self.leads.is_short = true;
         }
         if lead.standing.is_at_end() {
+            mem::swap(&mut self.way.pairs, &mut lead.pairs);
             return true;
         }
-        match self.met.insert_full(digest_of(lead)) {
-            Ok((_, true)) => self.branch(search, lead),
-            Ok(_) => {}
-            Err(_) => self.leads.is_short = true,
+        if self.is_new(lead) {
+            self.branch(lead);
         }
         false
     }
 
-    /// Goes on with the last run so: the processes that stand for the record's, if it shows all.
-    fn go_on_with_last(&mut self, search: &Search<'a>) -> Option<Vec<ProcessPair>> {
-        let Some(mut lead) = self.leads.runs.pop() else {
-            return None;
-        };
-        if self.go_on(search, &mut lead) {
-            Some(mem::replace(&mut lead.pairs, Vec::new(search.alloc)))
-        } else {
-            None
+    /// Goes on with the last run so, if there is one.
+    fn go_on_with_last(&mut self) -> bool {
+        match self.leads.runs.pop() {
+            Some(mut lead) => self.go_on(&mut lead),
+            None => false,
         }
     }
 
-    /// Searches over at most so many states: what shows that a run shows all, if one is found. Where memory was refused, that is noted.
-    fn search(&mut self, search: &Search<'a>, bound: usize) -> Option<Witness> {
+    /// Whether memory was refused.
+    fn is_short(&self) -> bool {
+        self.leads.is_short || self.next.is_short
+    }
+
+    /// Searches over at most so many states. Whether a run was found that shows all is told; where memory was refused, that is noted.
+    fn search(&mut self, bound: usize) -> bool {
         for _ in 0..bound {
-            if self.leads.is_short || self.leads.runs.is_empty() {
+            if self.is_short() || self.leads.runs.is_empty() {
                 break;
             }
-            if let Some(pairs) = self.go_on_with_last(search) {
-                let moves = mem::replace(&mut self.way, Vec::new(search.alloc));
-                return Some(Witness { pairs, moves });
+            if self.go_on_with_last() {
+                return true;
             }
         }
-        None
+        false
     }
 
     /// Begins with the run that has no moves, unless some process of it stands for two, or two for one.
     fn begin(&mut self, search: &Search<'a>, entries: &'a [Entry]) -> Result<(), Memory> {
         let pairs = first_pairs(search.alloc, search.task, entries)?;
-        let Some(standing) = Standing::first(search.alloc, search.task, &pairs, entries)? else {
-            return Ok(());
-        };
-        match Machine::<'_, LinkTree>::start(search.alloc, search.task) {
-            Ok(machine) => self.leads.push(Lead {
-                machine,
-                standing,
-                pairs,
-                moves: Vec::new(search.alloc),
-                base: 0,
-                is_short: false,
-            }),
-            Err(_) => self.leads.is_short = true,
+        if let Some(standing) = Standing::first(search.alloc, search.task, &pairs, entries)? {
+            self.leads.begin(search, standing, pairs);
         }
         Ok(())
     }
@@ -257,6 +266,38 @@ fn place_of(entries: &[Entry], sought: Option<&Entry>) -> usize {
     0
 }
 
+/// What was found, if it shows the calls.
+fn judged(
+    search: &Search<'_>,
+    entries: &[Entry],
+    witness: Witness,
+) -> Result<Option<Witness>, Memory>
+    ensures { IfOk result (λ judged. IfSome judged (λ found. IsShown search.now.task.now (placings_of search.now.placings.now) (calls_seen entries.now)
+        (witness_of found))) }
+{
+    match shows(
+        search.alloc,
+        search.task,
+        search.placings,
+        entries,
+        &witness,
+    ) {
+        Ok(true) => Ok(Some(witness)),
+        Ok(false) => Ok(None),
+        Err(_) => Err(Memory),
+    }
+}
+
+/// How far a search has come that found nothing.
+fn parted_of<'a>(trail: &mut Trail<'a>, search: &Search<'a>, entries: &'a [Entry]) -> Parted {
+    Parted {
+        entry: place_of(entries, trail.first_left),
+        points: mem::replace(&mut trail.points, Vec::new(search.alloc)),
+        states: trail.met.len(),
+        is_bounded: !trail.leads.runs.is_empty(),
+    }
+}
+
 /// What a search from the beginning comes to: what is found is checked by `shows`.
 fn checked<'a>(
     trail: &mut Trail<'a>,
@@ -267,29 +308,17 @@ fn checked<'a>(
     ensures { IfOk result (IsFollowed search.now.task.now (placings_of search.now.placings.now) (calls_seen entries.now)) }
 {
     trail.begin(search, entries)?;
-    let found = trail.search(search, bound);
-    if trail.leads.is_short {
+    let is_found = trail.search(bound);
+    if trail.is_short() {
         return Err(Memory);
     }
-    if let Some(witness) = found {
-        match shows(
-            search.alloc,
-            search.task,
-            search.placings,
-            entries,
-            &witness,
-        ) {
-            Err(_) => return Err(Memory),
-            Ok(true) => return Ok(Followed::Follows(witness)),
-            Ok(false) => {}
+    if is_found {
+        let found = mem::replace(&mut trail.way, no_witness(search.alloc));
+        if let Some(witness) = judged(search, entries, found)? {
+            return Ok(Followed::Follows(witness));
         }
     }
-    Ok(Followed::Parts(Parted {
-        entry: place_of(entries, trail.first_left),
-        points: mem::replace(&mut trail.points, Vec::new(search.alloc)),
-        states: trail.met.len(),
-        is_bounded: !trail.leads.runs.is_empty(),
-    }))
+    Ok(Followed::Parts(parted_of(trail, search, entries)))
 }
 
 /// Searches a run of the task that shows the calls of a record, over at most so many states. The processes of the record that none of its
@@ -312,7 +341,7 @@ pub fn follow<'a>(
     };
     let mut trail = Trail {
         leads: Leads::new(alloc),
-        way: Vec::new(alloc),
+        way: no_witness(alloc),
         next: Leads::new(alloc),
         met: IndexSet::new(alloc),
         fewest: entries.len(),

@@ -6,7 +6,7 @@ use crate::outcomes::Seen;
 use crate::places::Placing;
 use crate::standing::{Setting, Standing, after_skip, after_step};
 use crate::witnesses::Move;
-use instruction_set::Instruction;
+use instruction_set::{Instruction, Syscall};
 use link_tree::LinkTree;
 use process::Process;
 use records::{Entry, Event as Recorded, Outcome};
@@ -23,7 +23,7 @@ const MOST_LOOKUPS: usize = 32_768;
 /// How many instructions that are no calls are run on at most.
 const MOST_PLAIN: usize = 1024;
 
-/// In what is searched.
+/// In what is searched, and what memory is taken from.
 #[derive(Clone, Copy)]
 pub(crate) struct Search<'a> {
     pub alloc: Global,
@@ -36,6 +36,7 @@ pub(crate) struct Search<'a> {
 /// A run on its way: how far it has come, and how. Where memory was refused for a step of it, that is noted, and the step doesn't count.
 #[derive(Drop)]
 pub(crate) struct Lead<'a> {
+    pub search: Search<'a>,
     pub machine: Machine<'a, LinkTree>,
     pub standing: Standing<'a>,
     pub pairs: Vec<ProcessPair>,
@@ -117,6 +118,27 @@ impl<'a> Leads<'a> {
         }
     }
 
+    /// Adds the run that has no moves, with where it stands and the processes that stand for the record's.
+    pub(crate) fn begin(
+        &mut self,
+        search: &Search<'a>,
+        standing: Standing<'a>,
+        pairs: Vec<ProcessPair>,
+    ) {
+        match Machine::<'_, LinkTree>::start(search.alloc, search.task) {
+            Ok(machine) => self.push(Lead {
+                search: *search,
+                machine,
+                standing,
+                pairs,
+                moves: Vec::new(search.alloc),
+                base: 0,
+                is_short: false,
+            }),
+            Err(_) => self.is_short = true,
+        }
+    }
+
     /// Adds a run.
     fn try_push(&mut self, lead: Lead<'a>) -> Result<(), Memory> {
         self.runs.push(lead)?;
@@ -130,10 +152,13 @@ impl<'a> Leads<'a> {
         }
     }
 
-    /// Adds a copy of a run.
-    fn try_push_copy(&mut self, alloc: Global, lead: &Lead<'a>) -> Result<(), Memory> {
-        let run = lead.copy(alloc)?;
-        self.try_push(run)
+    /// Adds a copy of a run, if there is memory for it. Whether there is is told.
+    fn push_copy(&mut self, lead: &Lead<'a>) -> bool {
+        match lead.copy() {
+            Ok(run) => self.push(run),
+            Err(Memory) => self.is_short = true,
+        }
+        !self.is_short
     }
 
     /// Drops the last run.
@@ -142,11 +167,11 @@ impl<'a> Leads<'a> {
     }
 
     /// Tries something in the last run. Whether it may be is told.
-    fn try_in_last(&mut self, search: &Search<'a>, trial: Trial) -> bool {
+    fn try_in_last(&mut self, trial: Trial) -> bool {
         let Some(run) = self.runs.last_mut() else {
             return false;
         };
-        let may = run.tries(search, trial);
+        let may = run.tries(trial);
         if run.is_short {
             self.is_short = true;
         }
@@ -154,16 +179,37 @@ impl<'a> Leads<'a> {
     }
 
     /// Adds the run in which something is tried, if it may be. Whether it may is told.
-    pub(crate) fn add_tried(&mut self, search: &Search<'a>, lead: &Lead<'a>, trial: Trial) -> bool {
-        if self.try_push_copy(search.alloc, lead).is_err() {
-            self.is_short = true;
+    pub(crate) fn add_tried(&mut self, lead: &Lead<'a>, trial: Trial) -> bool {
+        if !self.push_copy(lead) {
             return false;
         }
-        let may = self.try_in_last(search, trial);
+        let may = self.try_in_last(trial);
         if !may {
             self.drop_last();
         }
         may
+    }
+
+    /// What a process does next in the last run, from its names to the end of its call.
+    fn outcome_in_last(&mut self, process: u8) -> LineResult {
+        let Some(run) = self.runs.last_mut() else {
+            return LineResult::Ended;
+        };
+        let outcome = run.outcome(process);
+        if run.is_short {
+            self.is_short = true;
+        }
+        outcome
+    }
+
+    /// What a process does next in a run, from its names to the end of its call: it is tried in a copy.
+    pub(crate) fn outcome_behind(&mut self, lead: &Lead<'a>, process: u8) -> LineResult {
+        if !self.push_copy(lead) {
+            return LineResult::Ended;
+        }
+        let outcome = self.outcome_in_last(process);
+        self.drop_last();
+        outcome
     }
 }
 
@@ -180,7 +226,8 @@ fn copied<T: Copy>(alloc: Global, items: &[T], is_short: &mut bool) -> Vec<T> {
 
 impl<'a> Lead<'a> {
     /// The same once more. Where memory was refused for a part of it, that is noted.
-    pub(crate) fn copy(&self, alloc: Global) -> Result<Lead<'a>, Memory> {
+    pub(crate) fn copy(&self) -> Result<Lead<'a>, Memory> {
+        let alloc = self.search.alloc;
         let machine = self.machine.copy()?;
         let mut is_short = false;
         let standing = Standing {
@@ -189,6 +236,7 @@ impl<'a> Lead<'a> {
             history: copied(alloc, &self.standing.history, &mut is_short),
         };
         Ok(Lead {
+            search: self.search,
             machine,
             standing,
             pairs: copied(alloc, &self.pairs, &mut is_short),
@@ -204,14 +252,22 @@ impl<'a> Lead<'a> {
     }
 
     /// The instruction at which a process stands, if it was made, lives, and there is one.
-    pub(crate) fn instruction(&self, task: &'a Task, process: u8) -> Option<&'a Instruction> {
+    pub(crate) fn instruction(&self, process: u8) -> Option<&'a Instruction> {
         let Some(process) = self.process(process) else {
             return None;
         };
         if process.alive {
-            code_of(task.programs(), process.program).get(process.point as usize)
+            code_of(self.search.task.programs(), process.program).get(process.point as usize)
         } else {
             None
+        }
+    }
+
+    /// The call at which a process stands, if it stands at one.
+    pub(crate) fn call(&self, process: u8) -> Option<&'a Syscall> {
+        match self.instruction(process) {
+            Some(Instruction::Invoke { call, .. }) => Some(call),
+            _ => None,
         }
     }
 
@@ -228,8 +284,8 @@ impl<'a> Lead<'a> {
     }
 
     /// What is seen of one step of the machine, if the process was made and there is memory for it.
-    pub(crate) fn watch(&mut self, task: &'a Task, event: Event) -> Option<Seen<'a>> {
-        match watched_step(task, &mut self.machine, event) {
+    fn watch(&mut self, event: Event) -> Option<Seen<'a>> {
+        match watched_step(self.search.task, &mut self.machine, event) {
             Ok(watched) => watched.seen,
             Err(_) => {
                 self.is_short = true;
@@ -238,14 +294,24 @@ impl<'a> Lead<'a> {
         }
     }
 
+    /// What a process does next, from its names to the end of its call.
+    fn outcome(&mut self, process: u8) -> LineResult {
+        let mut outcome = LineResult::Ended;
+        for _ in 0..MOST_LOOKUPS {
+            let Some(seen) = self.watch(event_of(process, 0)) else {
+                break;
+            };
+            outcome = seen.outcome;
+            if !matches!(outcome, LineResult::Walking) {
+                break;
+            }
+        }
+        outcome
+    }
+
     /// One step. It is to show the entry of a place, if it is the last one of its call. What it came to is told, if it may be.
-    fn step(
-        &mut self,
-        search: &Search<'a>,
-        event: Event,
-        shows: Option<usize>,
-    ) -> Option<LineResult> {
-        let Some(seen) = self.watch(search.task, event) else {
+    fn step(&mut self, event: Event, shows: Option<usize>) -> Option<LineResult> {
+        let Some(seen) = self.watch(event) else {
             return None;
         };
         let shows = match seen.outcome {
@@ -253,8 +319,8 @@ impl<'a> Lead<'a> {
             _ => shows,
         };
         let may = after_step(
-            search.alloc,
-            &search.setting(&self.pairs),
+            self.search.alloc,
+            &self.search.setting(&self.pairs),
             &mut self.standing,
             usize::from(event.process),
             Some(&seen),
@@ -268,9 +334,9 @@ impl<'a> Lead<'a> {
     }
 
     /// Runs a process on until its call has come back, which is to show the entry of a place, if one. Whether it does is told.
-    fn run_call(&mut self, search: &Search<'a>, event: Event, shows: Option<usize>) -> bool {
+    fn run_call(&mut self, event: Event, shows: Option<usize>) -> bool {
         for _ in 0..MOST_LOOKUPS {
-            match self.step(search, event, shows) {
+            match self.step(event, shows) {
                 Some(LineResult::Walking) => {}
                 None | Some(LineResult::Waiting | LineResult::Ended) => return false,
                 Some(_) => return true,
@@ -294,24 +360,25 @@ impl<'a> Lead<'a> {
     }
 
     /// Tries something. Whether it may be is told.
-    fn tries(&mut self, search: &Search<'a>, trial: Trial) -> bool {
+    fn tries(&mut self, trial: Trial) -> bool {
         match trial {
             Trial::Step { event, shows } => {
                 if let Some(at) = shows {
                     self.pair_next(at);
                 }
-                self.run_call(search, event, shows)
+                self.run_call(event, shows)
             }
             Trial::Skip(entry) => {
-                let setting = search.setting(&self.pairs);
+                let setting = self.search.setting(&self.pairs);
                 let processes = self.machine.processes();
-                let may = after_skip(search.alloc, &setting, &mut self.standing, processes, entry);
+                let alloc = self.search.alloc;
+                let may = after_skip(alloc, &setting, &mut self.standing, processes, entry);
                 self.note(may, Move::Skip { entry })
             }
             Trial::World(event) => {
-                let moves = self.run_call(search, event, None);
+                let moves = self.run_call(event, None);
                 if moves {
-                    self.run_plain(search, event.process);
+                    self.run_plain(event.process);
                 }
                 moves
             }
@@ -319,25 +386,25 @@ impl<'a> Lead<'a> {
     }
 
     /// Runs a process on as far as it can alone: up to its next call, byte or end.
-    pub(crate) fn run_plain(&mut self, search: &Search<'a>, process: u8) {
+    pub(crate) fn run_plain(&mut self, process: u8) {
         for _ in 0..MOST_PLAIN {
-            match self.instruction(search.task, process) {
+            match self.instruction(process) {
                 None
                 | Some(Instruction::In { .. } | Instruction::Halt | Instruction::Invoke { .. }) => {
                     break;
                 }
                 Some(_) => {}
             }
-            self.step(search, event_of(process, 0), None);
+            self.step(event_of(process, 0), None);
         }
     }
 
     /// Runs all processes that stand for the record's on so.
-    pub(crate) fn settle(&mut self, search: &Search<'a>) {
+    pub(crate) fn settle(&mut self) {
         for at in 0..self.pairs.len() {
             if at < self.pairs.len() {
                 let process = self.pairs[at].model;
-                self.run_plain(search, process);
+                self.run_plain(process);
             }
         }
     }

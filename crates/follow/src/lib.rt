@@ -23,5 +23,5 @@ mod worlds;
 pub use checking::shows;
 pub use following::{AtPoint, Followed, Parted, follow};
 pub use numbers::ProcessPair;
-pub use places::Placing;
+pub use places::{Placing, lies_at};
 pub use witnesses::{Move, Witness, events_of};

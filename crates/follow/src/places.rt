@@ -37,9 +37,9 @@ fn ends_name(text: &[u8]) -> bool
     matches!(text, [] | [b'/', ..])
 }
 
-/// Whether a path is that of a place, or leads beneath it.
+/// Whether a path is that of a place, or leads beneath it. A place is written without a slash at its end, so that of the root is empty. (own)
 #[tactic(auto, unfolding(crate::specs::Places::lies_at))]
-fn lies_at(place: &[u8], path: &[u8]) -> bool
+pub fn lies_at(place: &[u8], path: &[u8]) -> bool
     ensures { result ≡ lies_at place.now path.now }
 {
     match path.strip_prefix(place) {

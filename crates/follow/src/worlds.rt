@@ -3,7 +3,7 @@
 use crate::branching::add_reading;
 use crate::digests::{digest_of, open_at};
 use crate::given::value_of;
-use crate::leads::{Lead, Leads, Search, Trial, event_of};
+use crate::leads::{Lead, Leads, Trial, event_of};
 use crate::numbers::is_recorded;
 use fd_table::{End, Object};
 use indexmap::IndexSet;
@@ -81,17 +81,17 @@ pub(crate) fn may_help(lead: &Lead<'_>, process: u8, call: &Syscall) -> bool {
 }
 
 /// Adds the runs in which a process of the world moves once: one for each byte that is tried, if it reads one.
-fn add_moved<'a>(search: &Search<'a>, run: &Lead<'a>, next: &mut Leads<'a>) {
+fn add_moved<'a>(run: &Lead<'a>, next: &mut Leads<'a>) {
     for process in 0..MAX_PROCESSES as u8 {
         if !is_of_world(run, process) {
             continue;
         }
-        match run.instruction(search.task, process) {
+        match run.instruction(process) {
             Some(Instruction::In { register }) => {
-                add_reading(search, run, process, *register, true, next);
+                add_reading(run, process, *register, true, next);
             }
             _ => {
-                next.add_tried(search, run, Trial::World(event_of(process, 0)));
+                next.add_tried(run, Trial::World(event_of(process, 0)));
             }
         }
     }
@@ -109,13 +109,13 @@ struct Moving<'a> {
 
 impl<'a> Moving<'a> {
     /// Adds the run in which something is tried in the last run, if it may be. If that run was met before, it is dropped.
-    fn go_to_last(&mut self, search: &Search<'a>, trial: Trial, found: &mut Leads<'a>) {
+    fn go_to_last(&mut self, trial: Trial, found: &mut Leads<'a>) {
         let Some(run) = self.runs.runs.last() else {
             return;
         };
         match self.met.insert_full(digest_of(run)) {
             Ok((_, true)) => {
-                if found.add_tried(search, run, trial) {
+                if found.add_tried(run, trial) {
                     self.helped = self.helped.wrapping_add(1);
                 }
             }
@@ -125,32 +125,27 @@ impl<'a> Moving<'a> {
     }
 
     /// Takes the runs that come next and weren't met before, and adds those in which something may be tried then.
-    fn take_next(&mut self, search: &Search<'a>, trial: Trial, found: &mut Leads<'a>) {
+    fn take_next(&mut self, trial: Trial, found: &mut Leads<'a>) {
         for _ in 0..self.next.runs.len() {
             if let Some(run) = self.next.runs.pop() {
                 self.runs.push(run);
             }
-            self.go_to_last(search, trial, found);
+            self.go_to_last(trial, found);
         }
     }
 }
 
 /// Adds the runs in which the world moves first, by breadth, and then something may be tried, until enough are found.
-pub(crate) fn add_by_world<'a>(
-    search: &Search<'a>,
-    lead: &Lead<'a>,
-    trial: Trial,
-    found: &mut Leads<'a>,
-) {
+pub(crate) fn add_by_world<'a>(lead: &Lead<'a>, trial: Trial, found: &mut Leads<'a>) {
     let mut moving = Moving {
-        met: IndexSet::new(search.alloc),
-        runs: Leads::new(search.alloc),
-        next: Leads::new(search.alloc),
+        met: IndexSet::new(lead.search.alloc),
+        runs: Leads::new(lead.search.alloc),
+        next: Leads::new(lead.search.alloc),
         helped: 0,
     };
     let moving = &mut moving;
-    add_moved(search, lead, &mut moving.next);
-    moving.take_next(search, trial, found);
+    add_moved(lead, &mut moving.next);
+    moving.take_next(trial, found);
     for place in 0..MOST_STEPS - 1 {
         if moving.helped >= MOST_FOUND {
             break;
@@ -158,8 +153,8 @@ pub(crate) fn add_by_world<'a>(
         let Some(run) = moving.runs.runs.get(place) else {
             break;
         };
-        add_moved(search, run, &mut moving.next);
-        moving.take_next(search, trial, found);
+        add_moved(run, &mut moving.next);
+        moving.take_next(trial, found);
     }
     if moving.runs.is_short || moving.next.is_short {
         found.is_short = true;
