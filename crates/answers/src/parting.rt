@@ -1,6 +1,6 @@
 //! Where recorded calls part from a task, in words.
 
-use follow::{AtPoint, Parted, Placing};
+use follow::{AtPoint, Parted, Placing, lies_at};
 use records::{Binding, Entry, Event, MadeCall, Operand, Outcome, add_event};
 use simulator::LineResult;
 use task::Task;
@@ -38,18 +38,22 @@ impl<'a> Held<'a> {
 
     /// Whether a place of the task's tree is this one.
     fn has_place(&self, place: &[u8]) -> bool {
-        self.task
-            .nodes()
-            .iter()
-            .any(|node| node.place.names_text() == place)
+        for node in self.task.nodes() {
+            if node.place.names_text() == place {
+                return true;
+            }
+        }
+        false
     }
 
     /// Whether a place of the record is said to lie elsewhere in the task.
     fn is_placed(&self, place: &[u8]) -> bool {
-        self.placings.iter().any(|placing| match place.strip_prefix(placing.real.as_slice()) {
-            None => false,
-            Some(rest) => matches!(rest, [] | [b'/', ..]),
-        })
+        for placing in self.placings {
+            if lies_at(&placing.real, place) {
+                return true;
+            }
+        }
+        false
     }
 }
 
@@ -107,21 +111,36 @@ fn add_entry(page: &mut Page, entry: &Entry) {
     "\n".say(page);
 }
 
+/// A place up to the end of a name, behind this slash, if it isn't the first one and the task has a place of that name at its root.
+fn namesake_at<'a>(
+    held: &Held<'_>,
+    place: &'a [u8],
+    slash: usize,
+    end: usize,
+) -> Option<Namesake<'a>> {
+    let (Some(real), Some(model)) = (place.get(..end), place.get(slash..end)) else {
+        return None;
+    };
+    if slash > 0 && model.len() > 1 && held.has_place(model) {
+        Some(Namesake { real, model })
+    } else {
+        None
+    }
+}
+
 /// The name of the tree that a place of the record ends with or goes through, if the task has one there at its root.
 fn namesake_of<'a>(held: &Held<'_>, place: &'a [u8]) -> Option<Namesake<'a>> {
-    let mut front = 0usize;
-    for name in place.split(|byte| *byte == b'/') {
-        let end = front.saturating_add(name.len());
-        if front > 1 && !name.is_empty() {
-            let model = place.get(front - 1..end)?;
-            if held.has_place(model) {
-                let real = place.get(..end)?;
-                return Some(Namesake { real, model });
+    let mut slash = 0;
+    for (at, byte) in place.iter().enumerate() {
+        if *byte == b'/' {
+            let found = namesake_at(held, place, slash, at);
+            if found.is_some() {
+                return found;
             }
+            slash = at;
         }
-        front = end.saturating_add(1);
     }
-    None
+    namesake_at(held, place, slash, place.len())
 }
 
 /// The first place that a call names from the root, or that its descriptor has.
@@ -135,20 +154,26 @@ fn place_of(made: &MadeCall) -> Option<&[u8]> {
     }
 }
 
-/// Adds places of the record that words could bind: those which the task doesn't have, but whose names it has at its root.
+/// What words could bind of an entry's place: the task doesn't have it, but has its name at its root.
+fn namesake_in<'a>(held: &Held<'_>, entry: &'a Entry) -> Option<Namesake<'a>> {
+    let Event::Called(made) = &entry.event else {
+        return None;
+    };
+    match place_of(made) {
+        Some(place) if !held.is_placed(place) => namesake_of(held, place),
+        _ => None,
+    }
+}
+
+/// Adds places of the record that words could bind, each once.
 fn add_places(page: &mut Page, held: &Held<'_>, parted: &Parted) {
     let mut told = Vec::new(page.alloc());
-    for entry in held.entries.iter().take(parted.entry.saturating_add(1)) {
-        let Event::Called(made) = &entry.event else {
-            continue;
-        };
-        let Some(place) = place_of(made) else {
-            continue;
-        };
-        if held.is_placed(place) || told.len() >= MOST_PLACES {
-            continue;
+    let count = parted.entry.saturating_add(1).min(held.entries.len());
+    for entry in &held.entries[..count] {
+        if told.len() >= MOST_PLACES {
+            return;
         }
-        if let Some(namesake) = namesake_of(held, place) {
+        if let Some(namesake) = namesake_in(held, entry) {
             if !told.contains(&namesake) {
                 say!(page; "  perhaps ", namesake.real, "=", namesake.model, "\n");
                 if told.push(namesake).is_err() {

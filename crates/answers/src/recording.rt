@@ -26,11 +26,12 @@ fn silent_lines(text: &[u8], recorded: &Recorded) -> usize {
 /// Adds the lines that tell which of a record's lines aren't understood, and how many say nothing of a call.
 fn add_others(page: &mut Page, text: &[u8], recorded: &Recorded) {
     let misread = &recorded.misread;
-    for line in misread.iter().take(MOST_LINES) {
+    let told = misread.len().min(MOST_LINES);
+    for line in &misread[..told] {
         say!(page; NAME, ": line ", *line, " isn't understood\n");
     }
-    if misread.len() > MOST_LINES {
-        let others = misread.len() - MOST_LINES;
+    let others = misread.len() - told;
+    if others > 0 {
         say!(page; NAME, ": lines that aren't understood, beside these: ", others, "\n");
     }
     let silent = silent_lines(text, recorded);
