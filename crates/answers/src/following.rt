@@ -151,8 +151,7 @@ fn add_tally(page: &mut Page, shown: &Shown) {
     }
     say!(page; "follows: ", shown.calls, " calls are shown, ", count, " are skipped\n");
     for skipped in &shown.skipped {
-        say!(page; "  skipped: ", skipped.count, " ", skipped.what.as_slice());
-        say!(page; ", from line ", skipped.line, " on\n");
+        say!(page; "  skipped: ", skipped.count, " ", skipped.what.as_slice(), ", from line ", skipped.line, " on\n");
     }
 }
 

@@ -59,16 +59,17 @@ impl<'a> Held<'a> {
 
 /// Adds what an instruction comes to, beside what was recorded.
 fn add_outcome(page: &mut Page, outcome: LineResult) {
-    match outcome {
-        LineResult::Value(value) => say!(page; "would answer ", value),
+    let words = match outcome {
+        LineResult::Value(value) => return say!(page; "would answer ", value),
         LineResult::Failed(error, cause) => {
-            say!(page; "would answer ", error.name(), " (", cause.name(), ")")
+            return say!(page; "would answer ", error.name(), " (", cause.name(), ")");
         }
-        LineResult::Waiting => "would wait".say(page),
-        LineResult::Halted => "would end".say(page),
-        LineResult::Ended => "has ended".say(page),
-        LineResult::Done | LineResult::Walking => "would go on".say(page),
-    }
+        LineResult::Waiting => "would wait",
+        LineResult::Halted => "would end",
+        LineResult::Ended => "has ended",
+        LineResult::Done | LineResult::Walking => "would go on",
+    };
+    words.say(page);
 }
 
 /// Whether an instruction that comes to this is the recorded call as far as its name and its outcome tell.
@@ -92,16 +93,15 @@ fn is_alike(event: &Event, written: &[u8], outcome: LineResult) -> bool {
 fn add_point(page: &mut Page, held: &Held<'_>, event: &Event, at: &AtPoint) {
     let written = held.written(at);
     let name = held.task.program_name(at.program);
-    say!(page; "  ", name, ":", at.point, " (line ", written.line, ")");
-    if at.in_mode {
-        ", in the mode".say(page);
-    }
-    say!(page; ": ", written.text, ": ");
+    let mode = if at.in_mode { ", in the mode: " } else { ": " };
+    say!(page; "  ", name, ":", at.point, " (line ", written.line, ")", mode, written.text, ": ");
     add_outcome(page, at.outcome);
-    if is_alike(event, written.text, at.outcome) {
-        ", of something else".say(page);
-    }
-    "\n".say(page);
+    let end = if is_alike(event, written.text, at.outcome) {
+        ", of something else\n"
+    } else {
+        "\n"
+    };
+    end.say(page);
 }
 
 /// Adds the call at which a record parts from the task.
@@ -197,9 +197,10 @@ pub(crate) fn add_parted(page: &mut Page, held: &Held<'_>, parted: &Parted) {
         None => "parts: the record has nothing to show\n".say(page),
     }
     add_places(page, held, parted);
-    say!(page; "  states met: ", parted.states);
-    if parted.is_bounded {
-        ", and there are others".say(page);
-    }
-    "\n".say(page);
+    let end = if parted.is_bounded {
+        ", and there are others\n"
+    } else {
+        "\n"
+    };
+    say!(page; "  states met: ", parted.states, end);
 }
