@@ -108,6 +108,11 @@ pub data RecordedEvent : Type 0 where
   Ended : RecordedEvent
   Omitted : (left_out : LeftOut) → RecordedEvent
 
+-- an event is a call or an end, and isn't left out
+abbrev pub is_counted : RecordedEvent → Bool
+is_counted (Omitted left_out) = false
+is_counted event = true
+
 pub record RecordEntry : Type 0 where
   pub span : RecordSpan
   pub process : ℕ

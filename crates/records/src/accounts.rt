@@ -2,11 +2,11 @@
 
 ghost use Rattle.std.specs.Prelude.{◌≡◌, ◌+◌, ◌<◌, ◌^◌, ◌&&◌, ◌||◌, ◌==◌, ℕ, IfOk, OnOk, false, length, nat_lt, slice_index_or};
 ghost use Rattle.std.proofs.Math.Bool.{not};
-ghost use Rattle.records.specs.Accounts.{is_end_of, is_in_lists, is_line_of, ListTheOthers};
+ghost use Rattle.records.specs.Accounts.{is_end_of, is_in_lists, is_line_of};
 ghost use Rattle.records.specs.EntryViews.{calls_seen};
 
 use crate::entries::Entry;
-use crate::strace::{StraceLine, Told};
+use crate::strace::StraceLine;
 use std::alloc::{AllocError, Global};
 
 /// The lines in which no call begins or ends, by their numbers.
@@ -16,22 +16,6 @@ pub(crate) struct Accounts {
     pub misread: Vec<u32>,
     /// Those that say nothing of a call.
     pub silent: Vec<u32>,
-}
-
-/// Whether a line says nothing of a call by its kind.
-fn is_silent(told: Told<'_>) -> bool {
-    match told {
-        Told::Nothing
-        | Told::Signal(_)
-        | Told::Exited(_)
-        | Told::Killed(_)
-        | Told::Superseded(_)
-        | Told::Remark(_)
-        | Told::Frame(_) => true,
-        Told::Finished { .. } | Told::Unfinished { .. } | Told::Resumed { .. } | Told::Other => {
-            false
-        }
-    }
 }
 
 /// The number of the line at an index, or the greatest one.
@@ -65,7 +49,11 @@ fn mark_ends(marks: &mut [bool], entries: &[Entry])
 }
 
 /// So many marks, of which those are set in whose lines calls begin or end.
-fn marked(alloc: Global, count: usize, entries: &[Entry]) -> Result<Vec<bool>, AllocError>
+pub(crate) fn marked(
+    alloc: Global,
+    count: usize,
+    entries: &[Entry],
+) -> Result<Vec<bool>, AllocError>
     ensures { IfOk result (λ marks. (k : ℕ) → slice_index_or marks.items k false ≡ (is_end_of k (calls_seen entries.now) && nat_lt k count)) }
 {
     let mut marks = vec![in alloc; false; count]?;
@@ -98,7 +86,7 @@ impl Accounts {
 }
 
 /// The lines that aren't marked.
-fn accounts_of(
+pub(crate) fn accounts_of(
     alloc: Global,
     lines: &[StraceLine<'_>],
     marks: &[bool],
@@ -113,20 +101,8 @@ fn accounts_of(
     for (index, line) in lines.iter().enumerate() {
         let number = line_number(index);
         if !is_marked(marks, number) {
-            accounts.list(number, is_silent(line.told))?;
+            accounts.list(number, line.told.is_silent())?;
         }
     }
     Ok(accounts)
-}
-
-/// The lines in which no call of these entries begins or ends.
-pub(crate) fn account(
-    alloc: Global,
-    lines: &[StraceLine<'_>],
-    entries: &[Entry],
-) -> Result<Accounts, AllocError>
-    ensures { IfOk result (λ accounts. ListTheOthers (length lines.now) (calls_seen entries.now) accounts.misread.items accounts.silent.items) }
-{
-    let marks = marked(alloc, lines.len() + 1, entries)?;
-    accounts_of(alloc, lines, &marks)
 }

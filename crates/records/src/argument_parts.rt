@@ -90,7 +90,7 @@ pub(crate) fn first_at_top(text: &[u8], sought: u8) -> Option<usize>
 }
 
 /// The arguments of a call: the parts between the commas that stand in no string, bracket or note. With the commas they are the text.
-pub fn arguments<'t>(alloc: Global, text: &'t [u8]) -> Result<Vec<&'t [u8]>, AllocError>
+pub(crate) fn arguments<'t>(alloc: Global, text: &'t [u8]) -> Result<Vec<&'t [u8]>, AllocError>
     ensures { IfOk result (λ parts. joined comma (map (λ part. part.now) parts.items) ≡ text.entry.now) }
 {
     let mut parts = Vec::new(alloc);

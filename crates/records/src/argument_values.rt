@@ -2,15 +2,20 @@
 
 ghost use Rattle.std.specs.Prelude.{◌≤◌, length};
 
-use crate::strace_results::note_end;
 use crate::strace_texts::{after, before, number, same_bytes, without_spaces};
 use texts::first_part;
 
-/// A descriptor as an argument tells it, with what is noted of it and what stands behind it: nothing where there is none.
+/// A descriptor as an argument tells it, with what is noted of it.
 #[derive(Clone, Copy)]
 pub(crate) struct Mention<'t> {
     pub number: u32,
     pub note: &'t [u8],
+}
+
+/// A descriptor that a text begins with, and what stands behind it.
+#[derive(Clone, Copy)]
+pub(crate) struct Listed<'t> {
+    pub mention: Mention<'t>,
     pub behind: &'t [u8],
 }
 
@@ -26,8 +31,28 @@ fn digits_end(text: &[u8]) -> usize
     text.len()
 }
 
+/// Where a note ends that the text begins with, behind its last bracket.
+fn note_end(text: &[u8]) -> usize
+    ensures { result ≤ length text.now }
+{
+    let mut depth: usize = 0;
+    let mut last = b' ';
+    for (at, byte) in text.iter().enumerate() {
+        if *byte == b'<' {
+            depth = depth.saturating_add(1);
+        } else if *byte == b'>' && last != b'-' {
+            depth = depth.saturating_sub(1);
+            if depth == 0 {
+                return at + 1;
+            }
+        }
+        last = *byte;
+    }
+    text.len()
+}
+
 /// Where the note ends that a text begins with: at its beginning, where there is none.
-fn first_note_end(text: &[u8]) -> usize
+pub(crate) fn first_note_end(text: &[u8]) -> usize
     ensures { result ≤ length text.now }
 {
     match text {
@@ -43,37 +68,43 @@ pub(crate) fn inside(note: &[u8]) -> &[u8] {
 }
 
 /// The descriptor that a text begins with, if it begins with one.
-pub(crate) fn mention_of(text: &[u8]) -> Option<Mention<'_>> {
+fn listed_of(text: &[u8]) -> Option<Listed<'_>> {
     let (digits, rest) = text.split_at(digits_end(text));
     if !matches!(rest, [] | [b'<' | b']' | b'}' | b',' | b' ', ..]) {
         return None;
     }
     let (note, behind) = rest.split_at(first_note_end(rest));
-    match number(digits) {
-        Some(number) => Some(Mention {
-            number,
-            note: inside(note),
-            behind,
-        }),
+    let Some(number) = number(digits) else {
+        return None;
+    };
+    let note = inside(note);
+    let mention = Mention { number, note };
+    Some(Listed { mention, behind })
+}
+
+/// The descriptor that a text begins with, if it begins with one, alone.
+pub(crate) fn mention_of(text: &[u8]) -> Option<Mention<'_>> {
+    match listed_of(text) {
+        Some(listed) => Some(listed.mention),
         None => None,
     }
 }
 
 /// The first descriptor of those in brackets, such as `[3</a>, 4]` or `{3,4}`, that a text begins with.
-pub(crate) fn first_listed(text: &[u8]) -> Option<Mention<'_>> {
+pub(crate) fn first_listed(text: &[u8]) -> Option<Listed<'_>> {
     match text {
-        [b'[' | b'{', rest @ ..] => mention_of(without_spaces(rest)),
+        [b'[' | b'{', rest @ ..] => listed_of(without_spaces(rest)),
         _ => None,
     }
 }
 
 /// The next descriptor of a list, of which this text stands behind the one before.
-pub(crate) fn next_listed(behind: &[u8]) -> Option<Mention<'_>> {
+pub(crate) fn next_listed(behind: &[u8]) -> Option<Listed<'_>> {
     if let [b']' | b'}', ..] = behind {
         return None;
     }
     match first_part(behind, b',') {
-        (_, Some(next)) => mention_of(without_spaces(next)),
+        (_, Some(next)) => listed_of(without_spaces(next)),
         (_, None) => None,
     }
 }

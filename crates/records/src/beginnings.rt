@@ -3,7 +3,7 @@
 ghost use Rattle.std.specs.Prelude.{◌≡◌, ◌++◌, IfOk, OnOk};
 ghost use Rattle.std.specs.List.{flat_map};
 ghost use Rattle.records.specs.Accounts.{is_listed as is_listed_in};
-ghost use Rattle.records.specs.Beginnings.{begins, children_in, first_processes};
+ghost use Rattle.records.specs.Beginnings.{children_in, first_processes, is_of_new};
 ghost use Rattle.records.specs.Calls.{RecordEntry};
 ghost use Rattle.records.specs.EntryViews.{calls_seen, event_seen, record_entry_seen};
 
@@ -46,25 +46,22 @@ fn is_listed(number: u32, numbers: &[u32]) -> bool
     false
 }
 
-/// Whether an entry is of a process that no call has made, and that isn't known so far.
-fn begins(made: &[u32], known: &[u32], entry: &Entry) -> bool
-    ensures { result ≡ begins made.now known.now (record_entry_seen entry.now) }
+/// Whether an entry is a call or an end, and of a process that no call has made and that isn't known so far.
+fn is_of_new(made: &[u32], known: &[u32], entry: &Entry) -> bool
+    ensures { result ≡ is_of_new made.now known.now (record_entry_seen entry.now) }
 {
-    let is_told = match entry.event {
-        Event::Called(_) | Event::Ended => true,
-        Event::Omitted(_) => false,
-    };
-    is_told && !is_listed(entry.process, made) && !is_listed(entry.process, known)
+    entry.event.is_counted() && !is_listed(entry.process, made) && !is_listed(entry.process, known)
 }
 
-/// The processes of a record that none of its calls makes, in the order in which they come. Want of memory is the only error. (own)
+/// The processes of a record that none of its calls makes, in the order in which they come. One of which each entry is left out isn't
+/// counted. Want of memory is the only error. (own)
 pub fn first_processes(alloc: Global, entries: &[Entry]) -> Result<Vec<u32>, Memory>
     ensures { IfOk result (λ first. first.items ≡ first_processes (calls_seen entries.now)) }
 {
     let made = children_of(alloc, entries)?;
     let mut first = Vec::new(alloc);
     for entry in entries {
-        if begins(&made, &first, entry) {
+        if is_of_new(&made, &first, entry) {
             first.push(entry.process)?;
         }
     }

@@ -7,7 +7,7 @@ use crate::held::MAX_FOLLOWED;
 use crate::limiting;
 use crate::other_rights::OtherRight;
 use crate::runs::Run;
-use crate::seen_calls::SeenCall;
+use crate::seen_calls::{SeenCall, Through};
 use rights::Call;
 
 /// Linux's bits of a description's flags.
@@ -21,48 +21,49 @@ fn description_flags(append: bool, nonblock: bool) -> u32 {
 }
 
 /// Another number for a descriptor.
-fn add_duplicate(run: &mut Run, seen: &SeenCall<'_>, mention: Mention<'_>, closes_on_exec: bool) {
+fn add_duplicate(run: &mut Run, through: &Through<'_>, closes_on_exec: bool) {
+    let seen = through.seen;
     if let Some(made) = seen.made {
-        let kept = run.known.kept_of(mention);
+        let kept = run.known.kept_of(through.mention);
         run.known.hold(made.number, kept, closes_on_exec);
     }
-    run.add_on(seen, Call::Dup, mention, seen.made, seen.outcome);
+    run.add_on(through, Call::Dup, seen.made, seen.outcome);
 }
 
 /// A close, which takes the number away where it succeeds.
-fn add_close(run: &mut Run, seen: &SeenCall<'_>, mention: Mention<'_>, outcome: Option<Outcome>) {
-    run.add_on(seen, Call::Close, mention, None, outcome);
+fn add_close(run: &mut Run, through: &Through<'_>, outcome: Option<Outcome>) {
+    run.add_on(through, Call::Close, None, outcome);
     if matches!(outcome, Some(Outcome::Success(_))) {
-        run.known.process.table.put(mention.number, None);
+        run.known.process.table.put(through.mention.number, None);
     }
 }
 
 /// A close that another call brings about.
 pub(crate) fn add_silent_close(run: &mut Run, seen: &SeenCall<'_>, number: u32) {
-    let mention = Mention {
-        number,
-        note: b"",
-        behind: b"",
-    };
-    add_close(run, seen, mention, Some(Outcome::Success(0)));
+    let mention = Mention { number, note: b"" };
+    let through = Through { seen, mention };
+    add_close(run, &through, Some(Outcome::Success(0)));
 }
 
 /// A descriptor put at a number, which is closed before if it is in use: it is known, or its note tells.
-fn add_duplicate_to(run: &mut Run, seen: &SeenCall<'_>, mention: Mention<'_>) -> Option<Reason> {
-    if let (Some(target), true) = (seen.mention(1), seen.succeeds()) {
-        if target.number == mention.number {
+fn add_duplicate_to(run: &mut Run, through: &Through<'_>) -> Option<Reason> {
+    let seen = through.seen;
+    if let (Some(mention), true) = (seen.mention(1), seen.succeeds()) {
+        if mention.number == through.mention.number {
             return Some(Reason::Quiet);
         }
-        if !target.note.is_empty() || run.known.process.table.get(target.number).is_some() {
-            add_close(run, seen, target, Some(Outcome::Success(0)));
+        if !mention.note.is_empty() || run.known.process.table.get(mention.number).is_some() {
+            let target = Through { seen, mention };
+            add_close(run, &target, Some(Outcome::Success(0)));
         }
     }
-    add_duplicate(run, seen, mention, seen.has(2, b"O_CLOEXEC"));
+    add_duplicate(run, through, seen.has(2, b"O_CLOEXEC"));
     None
 }
 
 /// The closing of all numbers from one to another that are known to be in use, now or where the process goes on as another program.
-fn add_close_range(run: &mut Run, seen: &SeenCall<'_>, first: Mention<'_>) -> Option<Reason> {
+fn add_close_range(run: &mut Run, through: &Through<'_>) -> Option<Reason> {
+    let seen = through.seen;
     if !seen.succeeds() {
         return Some(Reason::Unknown);
     }
@@ -72,9 +73,8 @@ fn add_close_range(run: &mut Run, seen: &SeenCall<'_>, first: Mention<'_>) -> Op
     };
     let on_exec = seen.has(2, b"CLOSE_RANGE_CLOEXEC");
     let mut closes = false;
-    for number in 0..MAX_FOLLOWED {
-        let is_between = first.number <= number && number <= last;
-        if is_between && run.known.process.table.get(number).is_some() {
+    for number in through.mention.number..MAX_FOLLOWED {
+        if number <= last && run.known.process.table.get(number).is_some() {
             if on_exec {
                 run.known.process.table.set_closing(number, true);
             } else {
@@ -87,15 +87,21 @@ fn add_close_range(run: &mut Run, seen: &SeenCall<'_>, first: Mention<'_>) -> Op
 }
 
 /// The flags of a description.
-fn add_flags(run: &mut Run, seen: &SeenCall<'_>, mention: Mention<'_>) {
-    let outcome = match seen.outcome {
+fn add_flags(run: &mut Run, through: &Through<'_>) {
+    let outcome = match through.seen.outcome {
         Some(Outcome::Success(bits)) => Some(Outcome::Success(description_flags(
             bits & APPEND != 0,
             bits & NONBLOCK != 0,
         ))),
         outcome => outcome,
     };
-    run.add_on(seen, Call::FcntlGetfl, mention, None, outcome);
+    run.add_on(through, Call::FcntlGetfl, None, outcome);
+}
+
+/// New flags of a description.
+fn add_new_flags(run: &mut Run, through: &Through<'_>, append: bool, nonblock: bool) {
+    let flags = description_flags(append, nonblock);
+    run.add_with(through, Call::FcntlSetfl, flags, through.seen.outcome);
 }
 
 /// What an fcntl or an ioctl does.
@@ -147,68 +153,76 @@ fn command_of(seen: &SeenCall<'_>) -> Command {
 }
 
 /// An fcntl.
-fn add_fcntl(run: &mut Run, seen: &SeenCall<'_>, mention: Mention<'_>) -> Option<Reason> {
+fn add_fcntl(run: &mut Run, through: &Through<'_>) -> Option<Reason> {
+    let seen = through.seen;
     match command_of(seen) {
-        Command::Flags => add_flags(run, seen, mention),
+        Command::Flags => add_flags(run, through),
         Command::NewFlags => {
             let nonblock = seen.has_any(2, &[b"O_NONBLOCK", b"O_NDELAY"]);
-            let flags = description_flags(seen.has(2, b"O_APPEND"), nonblock);
-            run.add_with(seen, Call::FcntlSetfl, mention, flags, seen.outcome);
+            add_new_flags(run, through, seen.has(2, b"O_APPEND"), nonblock);
         }
-        Command::Duplicate => add_duplicate(run, seen, mention, false),
-        Command::DuplicateClosing => add_duplicate(run, seen, mention, true),
+        Command::Duplicate => add_duplicate(run, through, false),
+        Command::DuplicateClosing => add_duplicate(run, through, true),
         Command::Closing => {
             let closes_on_exec = seen.has(2, b"FD_CLOEXEC");
             let table = &mut run.known.process.table;
-            table.set_closing(mention.number, closes_on_exec);
+            table.set_closing(through.mention.number, closes_on_exec);
             return Some(Reason::Quiet);
         }
         Command::Nothing => return Some(Reason::Quiet),
-        Command::Lock => run.want(seen, OtherRight::Flock, Some(mention)),
+        Command::Lock => run.want(seen, OtherRight::Flock, Some(through.mention)),
         Command::Unknown => return Some(Reason::Unknown),
     }
     None
 }
 
 /// An ioctl.
-fn add_ioctl(run: &mut Run, seen: &SeenCall<'_>, mention: Mention<'_>) -> Option<Reason> {
+fn add_ioctl(run: &mut Run, through: &Through<'_>) -> Option<Reason> {
+    let seen = through.seen;
     if seen.has(1, b"FIONBIO") {
-        let flags = description_flags(false, !seen.has(2, b"0"));
-        run.add_with(seen, Call::FcntlSetfl, mention, flags, seen.outcome);
+        add_new_flags(run, through, false, !seen.has(2, b"0"));
         return None;
     }
     if !seen.has_any(1, &[b"FIOCLEX", b"FIONCLEX"]) {
-        run.want(seen, OtherRight::Ioctl, Some(mention));
+        run.want(seen, OtherRight::Ioctl, Some(through.mention));
         return None;
     }
     let table = &mut run.known.process.table;
-    table.set_closing(mention.number, seen.has(1, b"FIOCLEX"));
+    table.set_closing(through.mention.number, seen.has(1, b"FIOCLEX"));
     Some(Reason::Quiet)
+}
+
+/// A change of the offset.
+fn add_offset(run: &mut Run, through: &Through<'_>) {
+    if through.seen.succeeds() {
+        run.known.take_for_file(through.mention);
+    }
+    run.add_with(through, Call::Lseek, 0, through.seen.outcome);
+}
+
+/// Takes a call through a descriptor. Why it is left out is told, if it is.
+fn take_through(run: &mut Run, through: &Through<'_>, form: OnDescriptor) -> Option<Reason> {
+    match form {
+        OnDescriptor::Seek => add_offset(run, through),
+        OnDescriptor::Truncate => run.add_with(through, Call::Ftruncate, 0, through.seen.outcome),
+        OnDescriptor::Sync => run.add_lone(through, Call::Fsync),
+        OnDescriptor::Status => run.add_lone(through, Call::Fstat),
+        OnDescriptor::Duplicate => add_duplicate(run, through, false),
+        OnDescriptor::DuplicateTo => return add_duplicate_to(run, through),
+        OnDescriptor::Close => add_close(run, through, through.seen.outcome),
+        OnDescriptor::CloseRange => return add_close_range(run, through),
+        OnDescriptor::Fcntl => return add_fcntl(run, through),
+        OnDescriptor::Ioctl => return add_ioctl(run, through),
+        OnDescriptor::LimitRights => return limiting::take_rights(run, through),
+        OnDescriptor::LimitCommands => return limiting::take_commands(run, through),
+    }
+    None
 }
 
 /// Takes a call that works on the descriptor of its first argument. Why it is left out is told, if it is.
 pub(crate) fn take(run: &mut Run, seen: &SeenCall<'_>, form: OnDescriptor) -> Option<Reason> {
-    let Some(mention) = seen.mention(0) else {
-        return Some(Reason::Unknown);
-    };
-    match form {
-        OnDescriptor::Seek => {
-            if seen.succeeds() {
-                run.known.take_for_file(mention);
-            }
-            run.add_with(seen, Call::Lseek, mention, 0, seen.outcome);
-        }
-        OnDescriptor::Truncate => run.add_with(seen, Call::Ftruncate, mention, 0, seen.outcome),
-        OnDescriptor::Sync => run.add_on(seen, Call::Fsync, mention, None, seen.outcome),
-        OnDescriptor::Status => run.add_on(seen, Call::Fstat, mention, None, seen.outcome),
-        OnDescriptor::Duplicate => add_duplicate(run, seen, mention, false),
-        OnDescriptor::DuplicateTo => return add_duplicate_to(run, seen, mention),
-        OnDescriptor::Close => add_close(run, seen, mention, seen.outcome),
-        OnDescriptor::CloseRange => return add_close_range(run, seen, mention),
-        OnDescriptor::Fcntl => return add_fcntl(run, seen, mention),
-        OnDescriptor::Ioctl => return add_ioctl(run, seen, mention),
-        OnDescriptor::LimitRights => return limiting::take_rights(run, seen, mention),
-        OnDescriptor::LimitCommands => return limiting::take_commands(run, seen, mention),
+    match seen.mention(0) {
+        Some(mention) => take_through(run, &Through { seen, mention }, form),
+        None => Some(Reason::Unknown),
     }
-    None
 }

@@ -1,6 +1,7 @@
 //! The entries of a record: what each call was and what it came to.
 
 ghost use Rattle.std.specs.Prelude.{◌≡◌};
+ghost use Rattle.records.specs.Calls.{is_counted};
 ghost use Rattle.records.specs.EntryViews.{event_seen, reason_seen};
 ghost use Rattle.records.specs.Named.{reason_name};
 ghost use Rattle.records.specs.Texts.{has_call, is_left_out, is_same, wants_right};
@@ -128,6 +129,16 @@ pub enum Event {
 }
 
 impl Event {
+    /// Whether it is a call or an end, and so isn't left out.
+    pub fn is_counted(&self) -> bool
+        ensures { result ≡ is_counted (event_seen self.now) }
+    {
+        match self {
+            Event::Called(_) | Event::Ended => true,
+            Event::Omitted(_) => false,
+        }
+    }
+
     /// Whether it is a call.
     pub fn is_call(&self) -> bool
         ensures { result ≡ has_call (event_seen self.now) }

@@ -288,6 +288,16 @@ const OTHERS: [(&[u8], Form); 35] = [
     (UNKNOWN, Form::LeftOut(Reason::Unknown)),
 ];
 
+/// The first table. (a function in which a table stands is dear to prove)
+fn calls() -> &'static [(&'static [u8], Form)] {
+    &CALLS
+}
+
+/// The second table.
+fn others() -> &'static [(&'static [u8], Form)] {
+    &OTHERS
+}
+
 /// Whether a name is among these.
 fn is_among(names: &[u8], name: &[u8]) -> bool {
     let mut words = Words::new(names);
@@ -311,8 +321,8 @@ fn form_among(forms: &[(&[u8], Form)], name: &[u8]) -> Option<Form> {
 
 /// What a call is, by its name.
 pub(crate) fn form_of(name: &[u8]) -> Form {
-    if let Some(form) = form_among(&CALLS, name) {
+    if let Some(form) = form_among(calls(), name) {
         return form;
     }
-    form_among(&OTHERS, name).unwrap_or(Form::LeftOut(Reason::Name))
+    form_among(others(), name).unwrap_or(Form::LeftOut(Reason::Name))
 }

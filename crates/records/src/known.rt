@@ -143,16 +143,35 @@ impl Known {
     /// Takes a number of the world's pair for the node that its note tells, since it has an offset.
     pub(crate) fn take_for_file(&mut self, mention: Mention<'_>) {
         let note = mention.note;
-        if !matches!(self.process.table.kept(mention.number), Kept::End(0, _)) {
-            return;
-        }
-        if behind(note, b"<char ").is_some() || behind(note, b"<block ").is_some() {
-            return;
-        }
-        if place_note(note).is_some() {
+        let is_world = matches!(self.process.table.kept(mention.number), Kept::End(0, _));
+        let is_device = behind(note, b"<char ").is_some() || behind(note, b"<block ").is_some();
+        if is_world && !is_device && place_note(note).is_some() {
             let kept = self.kept_of_note(note);
             self.hold(mention.number, kept, false);
         }
+    }
+
+    /// What a descriptor is of: where it isn't known to be an end, its note counts.
+    fn kept_or_noted(&self, mention: Mention<'_>) -> Kept {
+        match self.process.table.kept(mention.number) {
+            Kept::Unknown | Kept::Place(_) if is_end_note(mention.note) => {
+                self.end_of_note(mention.note)
+            }
+            kept => kept,
+        }
+    }
+
+    /// The place that a note tells, or else that which is known.
+    fn noted_place(&self, note: &[u8], kept: Kept) -> Option<Page> {
+        let mut place = Page::new(self.alloc);
+        if let Some(noted) = place_note(note) {
+            add_unescaped(&mut place, noted);
+        } else if let Some(known) = self.place_of(kept) {
+            place.page(known);
+        } else {
+            return None;
+        }
+        Some(place)
     }
 
     /// Adds what a descriptor is, if there is one and it is known.
@@ -168,13 +187,7 @@ impl Known {
             return Ok(());
         };
         let descriptor = mention.number;
-        // Where it isn't known to be an end, its note counts.
-        let kept = match self.process.table.kept(descriptor) {
-            Kept::Unknown | Kept::Place(_) if is_end_note(mention.note) => {
-                self.end_of_note(mention.note)
-            }
-            kept => kept,
-        };
+        let kept = self.kept_or_noted(mention);
         if let Kept::End(pair, side) = kept {
             bindings.push(Binding::End {
                 descriptor,
@@ -183,15 +196,9 @@ impl Known {
             })?;
             return Ok(());
         }
-        let mut place = Page::new(self.alloc);
-        if let Some(noted) = place_note(mention.note) {
-            add_unescaped(&mut place, noted);
-        } else if let Some(known) = self.place_of(kept) {
-            place.page(known);
-        } else {
-            return Ok(());
+        if let Some(place) = self.noted_place(mention.note, kept) {
+            bindings.push(place_binding(descriptor, place.into_bytes()?))?;
         }
-        bindings.push(place_binding(descriptor, place.into_bytes()?))?;
         Ok(())
     }
 

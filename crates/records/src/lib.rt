@@ -3,7 +3,7 @@
 #![tactic(auto)]
 
 mod accounts;
-pub mod argument_parts;
+mod argument_parts;
 mod argument_values;
 mod beginnings;
 mod bindings;
@@ -32,9 +32,9 @@ pub mod recorded;
 mod runs;
 mod seen_calls;
 mod sets;
-pub mod strace;
+mod strace;
 mod strace_headers;
-pub mod strace_results;
+mod strace_results;
 mod strace_texts;
 mod streaming;
 mod strings;
@@ -45,7 +45,6 @@ mod truss;
 mod words;
 pub mod writing;
 
-pub use argument_parts::arguments;
 pub use beginnings::first_processes;
 pub use entries::{Binding, Entry, Event, LeftOut, MadeCall, Outcome, Reason, Span, WantedRight};
 pub use faults::CallsFault;
@@ -54,6 +53,4 @@ pub use operands::{Kind, Operand, operand_kinds};
 pub use reading::read_calls;
 pub use recorded::{Recorded, recorded_calls};
 pub use sets::add_flags;
-pub use strace::{StraceLine, Told, read_strace};
-pub use strace_results::{Answer, CallResult};
 pub use writing::write_calls;

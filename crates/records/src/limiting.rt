@@ -1,11 +1,10 @@
 //! Limits of descriptors, as calls. (own: by cap_rights_limit(2), cap_fcntls_limit(2) and what truss(1) prints of them)
 
-use crate::argument_values::Mention;
 use crate::entries::Reason;
 use crate::known::Known;
 use crate::real_calls::Given;
 use crate::runs::Run;
-use crate::seen_calls::SeenCall;
+use crate::seen_calls::Through;
 use crate::strace_texts::{after, between, same_bytes, without_spaces};
 use rights::Call;
 use texts::{Page, first_part};
@@ -60,36 +59,26 @@ fn listed(known: &mut Known, argument: &[u8], beginning: &[u8]) -> Option<Page> 
 }
 
 /// Takes a limit of the rights of a descriptor. Why it is left out is told, if it is.
-pub(crate) fn take_rights(
-    run: &mut Run,
-    seen: &SeenCall<'_>,
-    mention: Mention<'_>,
-) -> Option<Reason> {
+pub(crate) fn take_rights(run: &mut Run, through: &Through<'_>) -> Option<Reason> {
+    let (seen, mention) = (through.seen, through.mention);
     let Some(names) = listed(&mut run.known, seen.argument(1), b"CAP_") else {
         return Some(Reason::Unknown);
     };
-    let given = [
-        Given::Number(mention.number),
-        Given::Rights(names.as_bytes()),
-    ];
+    let rights = Given::Rights(names.as_bytes());
+    let given = [Given::Number(mention.number), rights];
     let about = [Some(mention), None];
     run.add(seen, Call::CapRightsLimit, &given, seen.outcome, about);
     None
 }
 
 /// Takes a limit of the fcntl commands of a descriptor, likewise.
-pub(crate) fn take_commands(
-    run: &mut Run,
-    seen: &SeenCall<'_>,
-    mention: Mention<'_>,
-) -> Option<Reason> {
+pub(crate) fn take_commands(run: &mut Run, through: &Through<'_>) -> Option<Reason> {
+    let (seen, mention) = (through.seen, through.mention);
     let Some(names) = listed(&mut run.known, seen.argument(1), b"CAP_FCNTL_") else {
         return Some(Reason::Unknown);
     };
-    let given = [
-        Given::Number(mention.number),
-        Given::Commands(names.as_bytes()),
-    ];
+    let commands = Given::Commands(names.as_bytes());
+    let given = [Given::Number(mention.number), commands];
     let about = [Some(mention), None];
     run.add(seen, Call::CapFcntlsLimit, &given, seen.outcome, about);
     None

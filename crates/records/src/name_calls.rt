@@ -9,7 +9,7 @@ use crate::entries::{Outcome, Reason};
 use crate::forms::OnName;
 use crate::real_calls::Given;
 use crate::runs::Run;
-use crate::seen_calls::SeenCall;
+use crate::seen_calls::{SeenCall, Through};
 use crate::strace_texts::same_bytes;
 use crate::targets::{AT, HERE, NEW_AT, NEW_HERE, Naming, Target};
 use rights::{Call, Errno};
@@ -18,7 +18,6 @@ use rights::{Call, Errno};
 const ROOT: Mention<'static> = Mention {
     number: u32::MAX,
     note: b"/",
-    behind: b"",
 };
 
 /// Whether a status is asked of a descriptor itself: by an empty name.
@@ -164,7 +163,7 @@ pub(crate) fn take(run: &mut Run, seen: &SeenCall<'_>, form: OnName) -> Option<R
             let Some(mention) = seen.mention(0) else {
                 return Some(Reason::Unknown);
             };
-            run.add_on(seen, Call::Fstat, mention, None, seen.outcome);
+            run.add_lone(&Through { seen, mention }, Call::Fstat);
             None
         }
         OnName::RenameAt if seen.has_any(4, &DOES_MORE) => Some(Reason::Unknown),

@@ -120,17 +120,17 @@ pub(crate) fn find_error(word: &[u8]) -> Result<Errno, LineFault>
     error_among(&ERRORS, word)
 }
 
-/// The name of the error of this number, by FreeBSD's numbers (errno(2)), if it is one that is known.
-pub(crate) fn error_of_number(number: u32) -> Option<&'static [u8]> {
+/// The name of the error of this number, by FreeBSD's numbers (errno(2)), or nothing where it is none that is known.
+pub(crate) fn error_of_number(number: u32) -> &'static [u8] {
     if number == ESPIPE {
-        return Some(b"ESPIPE");
+        return b"ESPIPE";
     }
     for error in &ERRORS {
         if u32::from(error.number()) == number {
-            return Some(error.name().as_bytes());
+            return error.name().as_bytes();
         }
     }
-    None
+    b""
 }
 
 /// The first of these reasons that the word names.

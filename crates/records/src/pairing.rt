@@ -5,7 +5,7 @@ use crate::entries::{Outcome, Reason};
 use crate::held::{Kept, WORLD};
 use crate::other_rights::OtherRight;
 use crate::runs::Run;
-use crate::seen_calls::SeenCall;
+use crate::seen_calls::{SeenCall, Through};
 use rights::{Call, Errno, Side};
 
 /// Which argument has the flags of a pair, and which those of a connection.
@@ -21,8 +21,8 @@ fn hold_end(run: &mut Run, end: Mention<'_>, kept: Kept, closes_on_exec: bool) {
 
 /// That an end doesn't wait.
 fn add_nonblock(run: &mut Run, seen: &SeenCall<'_>, end: Mention<'_>) {
-    let outcome = Some(Outcome::Success(0));
-    run.add_with(seen, Call::FcntlSetfl, end, 2, outcome);
+    let through = Through { seen, mention: end };
+    run.add_with(&through, Call::FcntlSetfl, 2, Some(Outcome::Success(0)));
 }
 
 /// A pair with these ends.
@@ -52,7 +52,7 @@ pub(crate) fn take(run: &mut Run, seen: &SeenCall<'_>, ends: usize) -> Option<Re
     let Some(second) = next_listed(first.behind) else {
         return Some(Reason::Unknown);
     };
-    add_pair(run, seen, first, second);
+    add_pair(run, seen, first.mention, second.mention);
     None
 }
 
@@ -62,7 +62,6 @@ pub(crate) fn take_world(run: &mut Run, seen: &SeenCall<'_>) -> Option<Reason> {
     let world = Mention {
         number: run.known.process.table.world_number(),
         note: b"",
-        behind: b"",
     };
     let made = match seen.outcome {
         Some(Outcome::Success(number)) => {
@@ -72,7 +71,11 @@ pub(crate) fn take_world(run: &mut Run, seen: &SeenCall<'_>) -> Option<Reason> {
         Some(Outcome::Failure(Errno::EMFILE | Errno::ENFILE)) => None,
         _ => return Some(Reason::Unknown),
     };
-    run.add_on(seen, Call::Dup, world, made, seen.outcome);
+    let through = Through {
+        seen,
+        mention: world,
+    };
+    run.add_on(&through, Call::Dup, made, seen.outcome);
     None
 }
 
@@ -83,36 +86,34 @@ fn listen_on(run: &mut Run, listener: Mention<'_>) {
     }
 }
 
-/// A connection: an end of a new pair, whose other end the world has.
-fn add_connection(run: &mut Run, seen: &SeenCall<'_>, listener: Mention<'_>, made: Mention<'_>) {
-    listen_on(run, listener);
+/// A connection through the descriptor that is listened on: an end of a new pair, whose other end the world has.
+fn add_connection(run: &mut Run, through: &Through<'_>, made: Mention<'_>) {
+    let seen = through.seen;
     let pair = run.known.new_pair();
-    hold_end(
-        run,
-        made,
-        Kept::End(pair, Side::A),
-        closes_on_exec(seen.text),
-    );
-    run.add_on(seen, Call::Recvfd, listener, Some(made), seen.outcome);
+    let closes_on_exec = closes_on_exec(seen.text);
+    hold_end(run, made, Kept::End(pair, Side::A), closes_on_exec);
+    run.add_on(through, Call::Recvfd, seen.made, seen.outcome);
     if seen.has(CONNECTION_FLAGS, b"SOCK_NONBLOCK") {
         add_nonblock(run, seen, made);
     }
-    run.want(seen, OtherRight::Accept, Some(listener));
+    run.want(seen, OtherRight::Accept, Some(through.mention));
 }
 
 /// Takes a call that makes a connection, which comes through the descriptor that is listened on. Why it is left out is told, if it is.
 pub(crate) fn take_connection(run: &mut Run, seen: &SeenCall<'_>) -> Option<Reason> {
-    let Some(listener) = seen.mention(0) else {
+    let Some(mention) = seen.mention(0) else {
         return Some(Reason::Unknown);
     };
+    let through = Through { seen, mention };
     if let Some(made) = seen.made {
-        add_connection(run, seen, listener, made);
+        listen_on(run, mention);
+        add_connection(run, &through, made);
         return None;
     }
     if !matches!(seen.outcome, Some(Outcome::Failure(Errno::EMFILE))) {
         return Some(Reason::Unknown);
     }
-    listen_on(run, listener);
-    run.add_on(seen, Call::Recvfd, listener, None, seen.outcome);
+    listen_on(run, mention);
+    run.add_lone(&through, Call::Recvfd);
     None
 }

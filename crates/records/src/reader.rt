@@ -12,29 +12,30 @@ use crate::logs::{CallName, Log, When};
 use crate::process_calls::is_thread;
 use crate::processes::{Process, Processes};
 use crate::runs::Run;
-use crate::seen_calls::SeenCall;
+use crate::seen_calls::{CameBack, SeenCall};
 use crate::strace::{StraceLine, Told};
-use crate::strace_results::{Answer, CallResult, UNTOLD};
+use crate::strace_results::{Answer, UNTOLD};
 use crate::strace_texts::same_bytes;
 use crate::taken_calls;
 use std::alloc::{AllocError, Global};
 use std::collections::BTreeMap;
-use std::mem;
 use texts::Page;
 
 /// A call that has begun, in a line.
 #[derive(Clone, Copy)]
 struct Begun<'t> {
     line: u32,
-    name: &'t [u8],
+    name: CallName<'t>,
     arguments: &'t [u8],
 }
 
-/// A fork that has begun: its thread and its line.
+/// A fork that has begun: its thread and its line, the process that makes it, and whether it makes a thread.
 #[derive(Clone, Copy)]
 struct BegunFork {
     thread: u32,
     line: u32,
+    parent: usize,
+    is_thread: bool,
 }
 
 /// A record as its lines are gone through.
@@ -67,20 +68,22 @@ impl<'t> Reader<'t> {
         }
     }
 
-    /// The process of the fork that began last, of those that haven't ended and of which no child is known, and whether it makes a thread.
-    fn last_fork(&mut self) -> Option<(usize, bool)> {
+    /// Whether a fork hasn't come back.
+    fn is_under_way(&self, fork: BegunFork) -> bool {
+        match self.begun.get(&fork.thread) {
+            Some(begun) => begun.line == fork.line,
+            None => false,
+        }
+    }
+
+    /// The fork that began last, of those that haven't come back and of which no child is known. Those behind it are forgotten.
+    fn last_fork(&mut self) -> Option<BegunFork> {
         for _ in 0..self.forks.len() {
-            let Some(fork) = self.forks.last() else {
+            let Some(fork) = self.forks.last().copied() else {
                 return None;
             };
-            match (
-                self.begun.get(&fork.thread),
-                self.processes.find(fork.thread),
-            ) {
-                (Some(begun), Some(process)) if begun.line == fork.line => {
-                    return Some((process, is_thread(begun.arguments)));
-                }
-                _ => {}
+            if self.is_under_way(fork) {
+                return Some(fork);
             }
             self.forks.pop();
         }
@@ -93,22 +96,29 @@ impl<'t> Reader<'t> {
         if let Some(process) = self.known_process(thread) {
             return process;
         }
-        if let Some((parent, is_thread)) = self.last_fork() {
+        if let Some(fork) = self.last_fork() {
             self.forks.pop();
-            self.processes.begin_child(parent, thread, is_thread);
+            self.processes
+                .begin_child(fork.parent, thread, fork.is_thread);
         }
-        match (self.processes.find(thread), self.processes.find(0)) {
-            (Some(process), _) => process,
-            (None, Some(process)) if self.unnamed == 0 => {
-                // It goes on with the call that began in those lines.
-                self.processes.take_for_leader(process, thread);
-                self.unnamed = thread;
-                if let Some(begun) = self.begun.remove(&0) {
-                    self.set_begun(thread, begun);
-                }
+        if let Some(process) = self.processes.find(thread) {
+            return process;
+        }
+        match self.processes.find(0) {
+            Some(process) if self.unnamed == 0 => {
+                self.name(process, thread);
                 process
             }
             _ => self.processes.add(Process::new(thread)),
+        }
+    }
+
+    /// Takes a thread for that of the lines before which told none: it goes on with the call that began in them.
+    fn name(&mut self, process: usize, thread: u32) {
+        self.processes.take_for_leader(process, thread);
+        self.unnamed = thread;
+        if let Some(begun) = self.begun.remove(&0) {
+            self.set_begun(thread, begun);
         }
     }
 
@@ -134,41 +144,44 @@ impl<'t> Reader<'t> {
         Some(process)
     }
 
-    /// Takes a call of a thread that began at a line and ends at another.
-    fn take_call(
-        &mut self,
-        first: u32,
-        last: u32,
-        thread: u32,
-        name: CallName<'_>,
-        text: &[u8],
-        returned: CallResult<'_>,
-    ) {
-        let process = self.process_of(thread);
-        match arguments(self.alloc, text) {
-            Ok(parts) => {
-                self.processes
-                    .exchange(process, &mut self.run.known.process);
-                let when = When::new(first, last, self.run.known.process.number);
-                let seen = SeenCall::new(when, thread, name, text, &parts, returned);
-                taken_calls::take(&mut self.run, &seen);
-                self.processes
-                    .exchange(process, &mut self.run.known.process);
-            }
+    /// Takes a call with its arguments, of a process.
+    fn take_parts(&mut self, process: usize, came: &CameBack<'_>, parts: &[&[u8]]) {
+        self.processes
+            .exchange(process, &mut self.run.known.process);
+        let when = When::new(came.first, came.last, self.run.known.process.number);
+        taken_calls::take(&mut self.run, &SeenCall::new(when, came, parts));
+        self.processes
+            .exchange(process, &mut self.run.known.process);
+    }
+
+    /// Takes a call that came back, or is given up.
+    fn take_call(&mut self, came: &CameBack<'_>) {
+        let process = self.process_of(came.thread);
+        match arguments(self.alloc, came.text) {
+            Ok(parts) => self.take_parts(process, came, &parts),
             Err(_) => self.processes.is_short = true,
         }
-        if let Answer::Number(child) = returned.answer {
-            if is_fork(name.bytes) {
-                self.processes.begin_child(process, child, is_thread(text));
+        if let Answer::Number(child) = came.returned.answer {
+            if is_fork(came.name.bytes) {
+                self.processes
+                    .begin_child(process, child, is_thread(came.text));
             }
         }
     }
 
     /// Takes the beginning of a call.
-    fn begin(&mut self, thread: u32, line: u32, name: &'t [u8], arguments: &'t [u8]) {
-        self.process_of(thread);
-        if is_fork(name) && self.forks.push(BegunFork { thread, line }).is_err() {
-            self.processes.is_short = true;
+    fn begin(&mut self, thread: u32, line: u32, name: CallName<'t>, arguments: &'t [u8]) {
+        let parent = self.process_of(thread);
+        if is_fork(name.bytes) {
+            let fork = BegunFork {
+                thread,
+                line,
+                parent,
+                is_thread: is_thread(arguments),
+            };
+            if self.forks.push(fork).is_err() {
+                self.processes.is_short = true;
+            }
         }
         let begun = Begun {
             line,
@@ -185,41 +198,39 @@ impl<'t> Reader<'t> {
         }
     }
 
-    /// Takes the end of a call.
-    fn resume(
-        &mut self,
-        line: u32,
-        thread: u32,
-        name: &[u8],
-        rest: &[u8],
-        returned: CallResult<'_>,
-    ) {
-        self.process_of(thread);
-        let begun = match self.begun.get(&thread) {
-            Some(begun) if same_bytes(begun.name, name) => *begun,
+    /// Takes the end of a call, which tells the rest of its arguments.
+    fn resume(&mut self, end: &CameBack<'_>) {
+        self.process_of(end.thread);
+        let begun = match self.begun.get(&end.thread) {
+            Some(begun) if same_bytes(begun.name.bytes, end.name.bytes) => *begun,
             _ => return,
         };
-        self.begun.remove(&thread);
-        let Some(name) = CallName::new(name) else {
-            return;
-        };
+        self.begun.remove(&end.thread);
         let mut text = Page::new(self.alloc);
         text.bytes(begun.arguments);
-        text.bytes(rest);
+        text.bytes(end.text);
         match text.finish() {
-            Ok(text) => self.take_call(begun.line, line, thread, name, text, returned),
+            Ok(text) => self.take_call(&CameBack {
+                first: begun.line,
+                text,
+                ..*end
+            }),
             Err(_) => self.processes.is_short = true,
         }
     }
 
     /// Takes a call that never came back: it is left out, but for the end of a process.
     fn give_up(&mut self, thread: u32, begun: Begun<'t>) {
-        let Some(name) = CallName::new(begun.name) else {
-            return;
-        };
-        let line = begun.line;
-        if is_end(begun.name) {
-            return self.take_call(line, line, thread, name, begun.arguments, UNTOLD);
+        let (line, name) = (begun.line, begun.name);
+        if is_end(name.bytes) {
+            return self.take_call(&CameBack {
+                first: line,
+                last: line,
+                thread,
+                name,
+                text: begun.arguments,
+                returned: UNTOLD,
+            });
         }
         let process = self.process_of(thread);
         let when = When::new(line, line, self.processes.number(process));
@@ -245,25 +256,35 @@ impl<'t> Reader<'t> {
                 name,
                 arguments,
                 returned,
-            } => {
-                if let Some(name) = CallName::new(name) {
-                    self.take_call(number, number, thread, name, arguments, returned);
-                }
-            }
+            } => self.take_call(&CameBack {
+                first: number,
+                last: number,
+                thread,
+                name,
+                text: arguments,
+                returned,
+            }),
             Told::Unfinished { name, arguments } => self.begin(thread, number, name, arguments),
             Told::Resumed {
                 name,
                 arguments,
                 returned,
-            } => self.resume(number, thread, name, arguments, returned),
-            Told::Exited(_) | Told::Killed(_) => self.end(number, thread),
+            } => self.resume(&CameBack {
+                first: number,
+                last: number,
+                thread,
+                name,
+                text: arguments,
+                returned,
+            }),
+            Told::Ended => self.end(number, thread),
             // The thread goes on with the call that another one began.
             Told::Superseded(other) => {
                 if let Some(begun) = self.begun.remove(&other) {
                     self.go_on_with(thread, begun);
                 }
             }
-            _ => {}
+            Told::Nothing | Told::Other => {}
         }
     }
 
@@ -271,10 +292,12 @@ impl<'t> Reader<'t> {
     pub(crate) fn finish(mut self) -> Result<Vec<Entry>, AllocError>
         ensures { IfOk result (λ entries. are_calls (calls_seen entries.items) ≡ true) }
     {
-        let none = BTreeMap::new(self.alloc);
-        let left = mem::replace(&mut self.begun, none);
-        for (thread, begun) in left {
-            self.give_up(thread, begun);
+        // No process comes from a fork any more.
+        self.forks.clear();
+        for _ in 0..self.begun.len() {
+            if let Some((thread, begun)) = self.begun.pop_first() {
+                self.give_up(thread, begun);
+            }
         }
         if self.processes.is_short || self.run.known.is_short {
             return Err(AllocError);

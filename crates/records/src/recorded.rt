@@ -6,7 +6,7 @@ ghost use Rattle.records.specs.Accounts.{ListTheOthers};
 ghost use Rattle.records.specs.Calls.{are_calls};
 ghost use Rattle.records.specs.EntryViews.{calls_seen};
 
-use crate::accounts::{account, line_number};
+use crate::accounts::{accounts_of, line_number, marked};
 use crate::entries::Entry;
 use crate::reader::Reader;
 use crate::strace::{StraceLine, read_strace};
@@ -43,7 +43,8 @@ pub fn recorded_calls(alloc: Global, text: &[u8]) -> Result<Recorded, AllocError
 {
     let lines = read_strace(alloc, text)?;
     let entries = entries_of(alloc, &lines)?;
-    let accounts = account(alloc, &lines, &entries)?;
+    let marks = marked(alloc, lines.len() + 1, &entries)?;
+    let accounts = accounts_of(alloc, &lines, &marks)?;
     Ok(Recorded {
         entries,
         misread: accounts.misread,

@@ -12,7 +12,7 @@ use crate::known::{About, Known};
 use crate::logs::{CallName, Log, When, left_out};
 use crate::other_rights::OtherRight;
 use crate::real_calls::{Given, operands_of};
-use crate::seen_calls::SeenCall;
+use crate::seen_calls::{SeenCall, Through};
 use rights::Call;
 use std::alloc::AllocError;
 
@@ -55,8 +55,21 @@ impl Run {
         self.omit_at(seen.when, Reason::Right, seen.name, wanted);
     }
 
-    /// A call that came to this, with what these descriptors are. Where the first one is an end of a pair, so many bytes of a stream went through
-    /// a read or a write as it answers.
+    /// How many bytes of a stream went through a call: as many as a read or a write through an end of a pair answers.
+    fn bytes_through(
+        &self,
+        call: Call,
+        outcome: Outcome,
+        stream: Option<Mention<'_>>,
+    ) -> Option<u32> {
+        match (call, outcome, stream) {
+            (Call::Read | Call::Write, Outcome::Success(bytes), Some(stream))
+                if self.known.is_end(stream) => { Some(bytes) }
+            _ => None,
+        }
+    }
+
+    /// A call that came to this, with what these descriptors are.
     fn called(
         &self,
         call: Call,
@@ -69,11 +82,7 @@ impl Run {
     {
         let operands = operands_of(self.known.alloc, given)?;
         let bindings = self.known.bindings_of(about)?;
-        let bytes = match (call, outcome, about[0]) {
-            (Call::Read | Call::Write, Outcome::Success(bytes), Some(stream))
-                if self.known.is_end(stream) => { Some(bytes) }
-            _ => None,
-        };
+        let bytes = self.bytes_through(call, outcome, about[0]);
         Ok(Event::Called(MadeCall {
             call,
             operands,
@@ -111,31 +120,39 @@ impl Run {
     /// Adds a call that is given a descriptor, and perhaps makes another one.
     pub(crate) fn add_on(
         &mut self,
-        seen: &SeenCall<'_>,
+        through: &Through<'_>,
         call: Call,
-        mention: Mention<'_>,
         made: Option<Mention<'_>>,
         outcome: Option<Outcome>,
     )
         requires { operand_kinds (call_of call) ≡ A_number ∷ [] }
     {
-        let given = [Given::Number(mention.number)];
-        self.add(seen, call, &given, outcome, [Some(mention), made]);
+        let given = [Given::Number(through.mention.number)];
+        let about = [Some(through.mention), made];
+        self.add(through.seen, call, &given, outcome, about);
+    }
+
+    /// Adds a call that is given a descriptor alone, and makes none.
+    pub(crate) fn add_lone(&mut self, through: &Through<'_>, call: Call)
+        requires { operand_kinds (call_of call) ≡ A_number ∷ [] }
+    {
+        self.add_on(through, call, None, through.seen.outcome);
     }
 
     /// Adds a call that is given a descriptor and a number.
     pub(crate) fn add_with(
         &mut self,
-        seen: &SeenCall<'_>,
+        through: &Through<'_>,
         call: Call,
-        mention: Mention<'_>,
         value: u32,
         outcome: Option<Outcome>,
     )
         requires { operand_kinds (call_of call) ≡ A_number ∷ A_number ∷ [] }
     {
+        let mention = through.mention;
         let given = [Given::Number(mention.number), Given::Number(value)];
-        self.add(seen, call, &given, outcome, [Some(mention), None]);
+        let about = [Some(mention), None];
+        self.add(through.seen, call, &given, outcome, about);
     }
 
     /// Adds the end of the process, if it went on before. Whether it did is told.

@@ -8,6 +8,19 @@ use crate::strace_results::{Answer, CallResult};
 use crate::strace_texts::{same_bytes, without_spaces};
 use rights::Errno;
 
+/// A call that came back, or is given up.
+#[derive(Clone, Copy)]
+pub(crate) struct CameBack<'t> {
+    /// The lines in which it begins and ends.
+    pub first: u32,
+    pub last: u32,
+    pub thread: u32,
+    pub name: CallName<'t>,
+    /// Its arguments in one piece.
+    pub text: &'t [u8],
+    pub returned: CallResult<'t>,
+}
+
 /// A call of a process.
 #[derive(Clone, Copy)]
 pub(crate) struct SeenCall<'t> {
@@ -20,14 +33,21 @@ pub(crate) struct SeenCall<'t> {
     pub arguments: &'t [&'t [u8]],
     /// The descriptor that it answers, where it succeeds and 32 bits hold the number.
     pub made: Option<Mention<'t>>,
-    /// The name of the error that it fails with, or nothing.
+    /// The name of the error that it fails with, or another word, or nothing.
     pub error: &'t [u8],
     /// What it came to, if that has a counterpart here.
     pub outcome: Option<Outcome>,
 }
 
+/// A call through a descriptor.
+#[derive(Clone, Copy)]
+pub(crate) struct Through<'t> {
+    pub seen: &'t SeenCall<'t>,
+    pub mention: Mention<'t>,
+}
+
 /// What a call came to, if that has a counterpart here. Linux's EPERM has none: it is of owners.
-fn outcome_of(answer: Answer<'_>, error: &[u8]) -> Option<Outcome> {
+fn outcome_of(answer: Answer, error: &[u8]) -> Option<Outcome> {
     match answer {
         Answer::Number(number) => Some(Outcome::Success(number)),
         Answer::Failure if same_bytes(error, b"EPERM") => None,
@@ -36,38 +56,30 @@ fn outcome_of(answer: Answer<'_>, error: &[u8]) -> Option<Outcome> {
             Ok(error) => Some(Outcome::Failure(error)),
             Err(_) => None,
         },
-        Answer::Unknown | Answer::Other(_) => None,
+        Answer::Untold => None,
     }
 }
 
 impl<'t> SeenCall<'t> {
-    /// A call of a thread, with its arguments in one piece and in parts.
-    pub(crate) fn new(
-        when: When,
-        thread: u32,
-        name: CallName<'t>,
-        text: &'t [u8],
-        arguments: &'t [&'t [u8]],
-        returned: CallResult<'t>,
-    ) -> SeenCall<'t> {
+    /// A call that came back, with its arguments.
+    pub(crate) fn new(when: When, came: &CameBack<'t>, arguments: &'t [&'t [u8]]) -> SeenCall<'t> {
+        let returned = came.returned;
         let made = match returned.answer {
             Answer::Number(number) => Some(Mention {
                 number,
-                note: inside(returned.note.unwrap_or(b"")),
-                behind: b"",
+                note: inside(returned.note),
             }),
-            _ => None,
+            Answer::Untold | Answer::Failure => None,
         };
-        let error = returned.error.unwrap_or(b"");
         SeenCall {
             when,
-            thread,
-            name,
-            text,
+            thread: came.thread,
+            name: came.name,
+            text: came.text,
             arguments,
             made,
-            error,
-            outcome: outcome_of(returned.answer, error),
+            error: returned.error,
+            outcome: outcome_of(returned.answer, returned.error),
         }
     }
 

@@ -4,10 +4,11 @@ ghost use Rattle.std.specs.Prelude.{◌≡◌, IfOk, length};
 ghost use Rattle.texts.specs.Lines.{lines_of};
 
 use crate::argument_parts::first_at_top;
+use crate::logs::CallName;
 use crate::strace_headers::header_of;
 use crate::strace_results::{CallResult, result_of};
 use crate::strace_texts::{
-    after, before, between, is_name, number_after, place_of, same_bytes, without_spaces,
+    after, before, between, number_after, place_of, same_bytes, without_spaces,
 };
 use crate::truss::{self, read_truss_line};
 use std::alloc::{AllocError, Global};
@@ -15,7 +16,7 @@ use texts::{Lines, first_part};
 
 /// A line of a record.
 #[derive(Clone, Copy)]
-pub struct StraceLine<'t> {
+pub(crate) struct StraceLine<'t> {
     /// The process that it tells, if it tells one.
     pub process: Option<u32>,
     pub told: Told<'t>,
@@ -23,40 +24,39 @@ pub struct StraceLine<'t> {
 
 /// What a line tells.
 #[derive(Clone, Copy)]
-pub enum Told<'t> {
-    /// Nothing: it is empty.
+pub(crate) enum Told<'t> {
+    /// Nothing of a call: it is empty, of a signal, of a stack, or a remark of strace's own.
     Nothing,
     /// A call with its arguments and its result.
     Finished {
-        name: &'t [u8],
+        name: CallName<'t>,
         arguments: &'t [u8],
         returned: CallResult<'t>,
     },
     /// The beginning of a call, which others come between.
     Unfinished {
-        name: &'t [u8],
+        name: CallName<'t>,
         arguments: &'t [u8],
     },
     /// The end of such a call: the arguments that were not told yet, and its result.
     Resumed {
-        name: &'t [u8],
+        name: CallName<'t>,
         arguments: &'t [u8],
         returned: CallResult<'t>,
     },
-    /// A signal.
-    Signal(&'t [u8]),
-    /// The process ended with this status.
-    Exited(u32),
-    /// The process was ended by this signal.
-    Killed(&'t [u8]),
+    /// The process ended.
+    Ended,
     /// The process went on as this one.
     Superseded(u32),
-    /// What strace says of itself.
-    Remark(&'t [u8]),
-    /// Where a call was made: a line of a stack.
-    Frame(&'t [u8]),
     /// It isn't understood.
     Other,
+}
+
+impl<'t> Told<'t> {
+    /// Whether it is understood, and says nothing of a call.
+    pub(crate) fn is_silent(self) -> bool {
+        matches!(self, Told::Nothing | Told::Ended | Told::Superseded(_))
+    }
 }
 
 /// What a line between `+++ ` and ` +++` tells: how a process ended.
@@ -64,15 +64,13 @@ fn end_of(text: &[u8]) -> Told<'_> {
     let Some(text) = between(text, b"+++ ", b" +++") else {
         return Told::Other;
     };
-    if let Some(status) = number_after(text, b"exited with ") {
-        return Told::Exited(status);
-    }
     if let Some(process) = number_after(text, b"superseded by execve in pid ") {
         return Told::Superseded(process);
     }
-    match after(text, b"killed by ") {
-        Some(signal) => Told::Killed(signal),
-        None => Told::Other,
+    if text.starts_with(b"killed by ") || number_after(text, b"exited with ").is_some() {
+        Told::Ended
+    } else {
+        Told::Other
     }
 }
 
@@ -98,16 +96,19 @@ fn resumed_of(text: &[u8]) -> Told<'_> {
     let (name, Some(rest)) = first_part(text, b' ') else {
         return Told::Other;
     };
+    let Some(name) = CallName::new(name) else {
+        return Told::Other;
+    };
     let Some(rest) = after(rest, b"resumed>") else {
         return Told::Other;
     };
     match ended(rest, false) {
-        Some((arguments, returned)) if is_name(name) => Told::Resumed {
+        Some((arguments, returned)) => Told::Resumed {
             name,
             arguments,
             returned,
         },
-        _ => Told::Other,
+        None => Told::Other,
     }
 }
 
@@ -130,9 +131,9 @@ pub(crate) fn call_of(text: &[u8], is_truss: bool) -> Told<'_> {
     let (name, Some(rest)) = first_part(text, b'(') else {
         return Told::Other;
     };
-    if !is_name(name) {
+    let Some(name) = CallName::new(name) else {
         return Told::Other;
-    }
+    };
     match unfinished(rest) {
         Some(arguments) if !is_truss => return Told::Unfinished { name, arguments },
         _ => {}
@@ -152,29 +153,24 @@ fn told_by(text: &[u8]) -> Told<'_> {
     match text {
         [] => Told::Nothing,
         [b'+', ..] => end_of(text),
-        [b'-', ..] => match between(text, b"--- ", b" ---") {
-            Some(signal) => Told::Signal(signal),
-            None => Told::Other,
-        },
+        [b'-', ..] if between(text, b"--- ", b" ---").is_some() => Told::Nothing,
         // The end of a call, or a remark that the end of a line before was cut off.
         [b'<', ..] => match after(text, b"<... ") {
             Some(rest) => resumed_of(rest),
-            None if same_bytes(text, b"<unfinished ...>") => Told::Remark(text),
+            None if same_bytes(text, b"<unfinished ...>") => Told::Nothing,
             None => Told::Other,
         },
-        _ => match after(text, b"strace: ") {
-            Some(remark) => Told::Remark(remark),
-            None => call_of(text, false),
-        },
+        _ if text.starts_with(b"strace: ") => Told::Nothing,
+        _ => call_of(text, false),
     }
 }
 
-/// What a line tells.
+/// What a line tells. One of a stack begins with an arrow.
 fn read_line(line: &[u8]) -> StraceLine<'_> {
-    if let Some(frame) = after(line, b" > ") {
+    if line.starts_with(b" > ") {
         return StraceLine {
             process: None,
-            told: Told::Frame(frame),
+            told: Told::Nothing,
         };
     }
     if let Some(told) = read_truss_line(line) {
@@ -189,7 +185,10 @@ fn read_line(line: &[u8]) -> StraceLine<'_> {
 
 /// What each line of a record tells, in their order: no line is left out. A line that isn't understood is `Other`. What stands behind the
 /// last line feed is a line too, mostly an empty one.
-pub fn read_strace<'t>(alloc: Global, text: &'t [u8]) -> Result<Vec<StraceLine<'t>>, AllocError>
+pub(crate) fn read_strace<'t>(
+    alloc: Global,
+    text: &'t [u8],
+) -> Result<Vec<StraceLine<'t>>, AllocError>
     ensures { IfOk result (λ lines. length lines.items ≡ length (lines_of text.entry.now)) }
 {
     let mut told = Vec::new(alloc);

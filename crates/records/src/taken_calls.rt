@@ -31,9 +31,8 @@ fn first_waited<'t>(seen: &SeenCall<'t>) -> Option<Mention<'t>> {
         return mention_of(rest);
     }
     for at in 1..4 {
-        let first = first_listed(seen.argument(at));
-        if first.is_some() {
-            return first;
+        if let Some(first) = first_listed(seen.argument(at)) {
+            return Some(first.mention);
         }
     }
     None

@@ -56,8 +56,8 @@ pub(crate) fn result_of(text: &[u8]) -> Option<CallResult<'_>> {
     match number(digits) {
         Some(number) => Some(CallResult {
             answer: Answer::Failure,
+            note: b"",
             error: error_of_number(number),
-            ..UNTOLD
         }),
         None => None,
     }
@@ -65,19 +65,19 @@ pub(crate) fn result_of(text: &[u8]) -> Option<CallResult<'_>> {
 
 /// What the text behind the process tells.
 fn told_by(text: &[u8]) -> Told<'_> {
-    if text.starts_with(b"<new process>") || text.starts_with(b"<thread ") {
-        return Told::Remark(text);
+    if text.starts_with(b"<new process>")
+        || text.starts_with(b"<thread ")
+        || text.starts_with(b"SIGNAL ")
+    {
+        return Told::Nothing;
     }
-    if let Some(signal) = after(text, b"SIGNAL ") {
-        return Told::Signal(signal);
+    let has_ended = text.starts_with(b"process killed, signal = ")
+        || number_after(text, b"process exit, rval = ").is_some();
+    if has_ended {
+        Told::Ended
+    } else {
+        call_of(text, true)
     }
-    if let Some(status) = number_after(text, b"process exit, rval = ") {
-        return Told::Exited(status);
-    }
-    if let Some(signal) = after(text, b"process killed, signal = ") {
-        return Told::Killed(signal);
-    }
-    call_of(text, true)
 }
 
 /// What a line tells, if it begins as those of truss do: with blanks, the process and a colon.
