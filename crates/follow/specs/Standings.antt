@@ -8,7 +8,7 @@ use Rattle.rights.specs.Values.{ProcessNumber}
 use Rattle.process.specs.State.{ProcessState}
 use Rattle.instruction_set.specs.Programs.{Syscall, called}
 use Rattle.kernel.specs.Steps.{LineResult, Halted}
-use Rattle.records.specs.Calls.{RealOperand, Path, MadeCall, RecordedEvent, Called, Ended, Omitted, RecordEntry, RecordedCalls}
+use Rattle.records.specs.Calls.{RealOperand, Path, MadeCall, RecordedEvent, Called, Ended, Omitted, RecordEntry, RecordedCalls, is_counted}
 use Rattle.task.specs.Plans.{Plan}
 use Rattle.follow.specs.Places.{Placing, is_foreign, placed}
 use Rattle.follow.specs.Numbers.{Naming, ProcessPair, first_namings, is_injection, is_number, is_recorded, model_of}
@@ -104,11 +104,7 @@ module _ (g : Setting) where
   abbrev pub after_skip : Standing → List ProcessState → ℕ → Option Standing
   after_skip s processes i = option_and_then (λ (entry : RecordEntry). if_skipped s processes i entry.event (model_of g.pairs entry.process)) (next_entry s.left i)
 
--- whether it is a call or an end, and not left out
-abbrev pub is_counted : RecordedEvent → Bool
-is_counted (Omitted left_out) = false
-is_counted _ = true
-
+-- an entry that is counted
 abbrev pub kept : RecordEntry → RecordedCalls
 kept entry = if is_counted entry.event then entry ∷ [] else []
 

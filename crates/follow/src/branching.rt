@@ -3,7 +3,7 @@
 use crate::checking::code_of;
 use crate::given::{Names, call_fits};
 use crate::leads::{Lead, Leads, Search, Trial, event_of};
-use crate::numbers::{ProcessPair, model_of};
+use crate::numbers::model_of;
 use crate::outcomes::is_of_mode;
 use crate::standing::{next_entry, same_call};
 use crate::worlds::{add_by_world, may_help};
@@ -16,14 +16,6 @@ use texts::Page;
 
 /// How many entries are looked at whether they may come next.
 const MOST_NEXT: usize = 16;
-
-/// The process of the task that stands for one of the record.
-pub(crate) fn stand_in(pairs: &[ProcessPair], real: u32) -> Option<u8> {
-    match model_of(pairs, real) {
-        None => None,
-        Some(model) => u8::try_from(model).ok(),
-    }
-}
 
 /// Whether the call at which a process stands is that of the record, given the same.
 pub(crate) fn may_show(lead: &Lead<'_>, process: u8, call: &Syscall, made: &MadeCall) -> bool {
@@ -231,7 +223,7 @@ fn add_at<'a>(lead: &Lead<'a>, turn: Turn, at: usize, found: &mut Leads<'a>) {
     let Some(entry) = next_entry(&lead.standing.left, at) else {
         return;
     };
-    let Some(process) = stand_in(&lead.pairs, entry.process) else {
+    let Some(process) = model_of(&lead.pairs, entry.process) else {
         return;
     };
     match turn {

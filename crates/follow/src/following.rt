@@ -6,11 +6,11 @@ ghost use Rattle.follow.specs.FollowedViews.{IsFollowed};
 ghost use Rattle.follow.specs.Shows.{IsShown};
 ghost use Rattle.follow.specs.Views.{placings_of, witness_of};
 
-use crate::branching::{add_branches, stand_in};
+use crate::branching::add_branches;
 use crate::checking::shows;
 use crate::digests::digest_of;
 use crate::leads::{Lead, Leads, Search};
-use crate::numbers::ProcessPair;
+use crate::numbers::{ProcessPair, model_of};
 use crate::places::Placing;
 use crate::standing::{Standing, has_limiting};
 use crate::witnesses::Witness;
@@ -21,9 +21,6 @@ use simulator::LineResult;
 use std::alloc::Global;
 use std::mem;
 use task::{Start, Task};
-
-/// How many runs are kept at most that may be gone on with.
-const MOST_KEPT: usize = 512;
 
 /// How many points are told at most.
 const MOST_POINTS: usize = 16;
@@ -69,8 +66,6 @@ struct Trail<'a> {
     leads: Leads<'a>,
     /// The moves of the way to the one that was last, and, where that shows all, the processes that stand for the record's.
     way: Witness,
-    /// The runs that come next behind that one.
-    next: Leads<'a>,
     met: IndexSet<u128>,
     /// How many entries were left where most were shown, the first one of them, and the points there.
     fewest: usize,
@@ -133,7 +128,7 @@ impl<'a> Trail<'a> {
             program: state.program,
             point: state.point,
             in_mode: state.mode(),
-            outcome: self.next.outcome_behind(lead, process),
+            outcome: self.leads.outcome_behind(lead, process),
         };
         if !self.points.contains(&point) && self.points.push(point).is_err() {
             self.leads.is_short = true;
@@ -147,19 +142,8 @@ impl<'a> Trail<'a> {
             return;
         }
         if let Some(entry) = left.first() {
-            if let Some(process) = stand_in(&lead.pairs, entry.process) {
+            if let Some(process) = model_of(&lead.pairs, entry.process) {
                 self.note(lead, process);
-            }
-        }
-    }
-
-    /// Keeps the runs that come next, the first of them to be gone on with first: that one always, and others only while there are few.
-    fn keep(&mut self) {
-        for _ in 0..self.next.runs.len() {
-            if self.next.runs.len() > 1 && self.leads.runs.len() >= MOST_KEPT {
-                self.next.drop_last();
-            } else if let Some(lead) = self.next.runs.pop() {
-                self.leads.push(lead);
             }
         }
     }
@@ -167,11 +151,12 @@ impl<'a> Trail<'a> {
     /// Keeps the runs that come next behind a run, or notes where it stands, if none has come further.
     fn branch(&mut self, lead: &Lead<'a>) {
         self.reach(lead);
-        add_branches(lead, &mut self.next);
-        if self.next.runs.is_empty() {
+        let first = self.leads.runs.len();
+        add_branches(lead, &mut self.leads);
+        if self.leads.runs.len() == first {
             self.note_end(lead);
         } else {
-            self.keep();
+            self.leads.turn(first);
         }
     }
 
@@ -222,15 +207,10 @@ impl<'a> Trail<'a> {
         }
     }
 
-    /// Whether memory was refused.
-    fn is_short(&self) -> bool {
-        self.leads.is_short || self.next.is_short
-    }
-
     /// Searches over at most so many states. Whether a run was found that shows all is told; where memory was refused, that is noted.
     fn search(&mut self, bound: usize) -> bool {
         for _ in 0..bound {
-            if self.is_short() || self.leads.runs.is_empty() {
+            if self.leads.is_short || self.leads.runs.is_empty() {
                 break;
             }
             if self.go_on_with_last() {
@@ -309,7 +289,7 @@ fn checked<'a>(
 {
     trail.begin(search, entries)?;
     let is_found = trail.search(bound);
-    if trail.is_short() {
+    if trail.leads.is_short {
         return Err(Memory);
     }
     if is_found {
@@ -342,7 +322,6 @@ pub fn follow<'a>(
     let mut trail = Trail {
         leads: Leads::new(alloc),
         way: no_witness(alloc),
-        next: Leads::new(alloc),
         met: IndexSet::new(alloc),
         fewest: entries.len(),
         first_left: None,

@@ -10,6 +10,7 @@ use instruction_set::{Instruction, Syscall};
 use link_tree::LinkTree;
 use process::Process;
 use records::{Entry, Event as Recorded, Outcome};
+use rights::limits::MAX_PROCESSES;
 use rights::{Call, Memory};
 use simulator::{LineResult, Machine};
 use std::alloc::Global;
@@ -19,6 +20,9 @@ use task::Task;
 
 /// How many steps a call takes at most: one for each name of its paths, and of the links that they lead through.
 const MOST_LOOKUPS: usize = 32_768;
+
+/// Behind how many runs those that come next aren't kept, but for the first of them.
+const MOST_KEPT: usize = 512;
 
 /// How many instructions that are no calls are run on at most.
 const MOST_PLAIN: usize = 1024;
@@ -84,16 +88,14 @@ impl<'a> Search<'a> {
     }
 }
 
-/// The process that the entry of a place has made in the record, if it is a fork.
-fn child_at(left: &[&Entry], at: usize) -> Option<u32> {
-    let Some(entry) = left.get(at) else {
-        return None;
-    };
-    let Recorded::Called(made) = &entry.event else {
-        return None;
-    };
-    match (made.call, made.outcome) {
-        (Call::Fork, Outcome::Success(child)) => Some(child),
+/// The process that the entry of a place has made in the record, if it is a fork that succeeded.
+fn child_at(left: &[&Entry], at: Option<usize>) -> Option<u32> {
+    let entry = left.get(at?)?;
+    match &entry.event {
+        Recorded::Called(made) => match (made.call, made.outcome) {
+            (Call::Fork, Outcome::Success(child)) => Some(child),
+            _ => None,
+        },
         _ => None,
     }
 }
@@ -159,6 +161,17 @@ impl<'a> Leads<'a> {
             Err(Memory) => self.is_short = true,
         }
         !self.is_short
+    }
+
+    /// Turns the runs from a place on round, so that the first of them is the last one; it is the only one that stays where there are many
+    /// before.
+    pub(crate) fn turn(&mut self, first: usize) {
+        if first >= MOST_KEPT {
+            self.runs.truncate(first.saturating_add(1));
+        }
+        if first < self.runs.len() {
+            self.runs[first..].reverse();
+        }
     }
 
     /// Drops the last run.
@@ -346,35 +359,38 @@ impl<'a> Lead<'a> {
     }
 
     /// Notes that the next process that is made stands for the one that the entry of a place has made, if it has made one and none does.
-    fn pair_next(&mut self, at: usize) {
-        let Some(real) = child_at(&self.standing.left, at) else {
+    fn pair_next(&mut self, shows: Option<usize>) {
+        let Some(real) = child_at(&self.standing.left, shows) else {
             return;
         };
-        let Ok(model) = u8::try_from(self.machine.processes().len()) else {
-            return;
-        };
+        // There are 16 processes at most.
+        let model = self.machine.processes().len().min(MAX_PROCESSES) as u8;
         let is_new = model_of(&self.pairs, real).is_none();
         if is_new && self.pairs.push(ProcessPair { real, model }).is_err() {
             self.is_short = true;
         }
     }
 
+    /// Skips the entry of a place. Whether it may be is told.
+    fn skip(&mut self, entry: usize) -> bool {
+        let may = after_skip(
+            self.search.alloc,
+            &self.search.setting(&self.pairs),
+            &mut self.standing,
+            self.machine.processes(),
+            entry,
+        );
+        self.note(may, Move::Skip { entry })
+    }
+
     /// Tries something. Whether it may be is told.
     fn tries(&mut self, trial: Trial) -> bool {
         match trial {
             Trial::Step { event, shows } => {
-                if let Some(at) = shows {
-                    self.pair_next(at);
-                }
+                self.pair_next(shows);
                 self.run_call(event, shows)
             }
-            Trial::Skip(entry) => {
-                let setting = self.search.setting(&self.pairs);
-                let processes = self.machine.processes();
-                let alloc = self.search.alloc;
-                let may = after_skip(alloc, &setting, &mut self.standing, processes, entry);
-                self.note(may, Move::Skip { entry })
-            }
+            Trial::Skip(entry) => self.skip(entry),
             Trial::World(event) => {
                 let moves = self.run_call(event, None);
                 if moves {

@@ -27,14 +27,14 @@ pub(crate) struct Naming {
 }
 
 /// The process that stands for one of the record.
-pub(crate) fn model_of(pairs: &[ProcessPair], real: u32) -> Option<usize>
+pub(crate) fn model_of(pairs: &[ProcessPair], real: u32) -> Option<u8>
     ensures { result ≡ model_of (pairs_of pairs.now) real }
 {
     match pairs {
         [] => None,
         [pair, pairs @ ..] => {
             if pair.real == real {
-                Some(usize::from(pair.model))
+                Some(pair.model)
             } else {
                 model_of(pairs, real)
             }
@@ -48,7 +48,7 @@ pub(crate) fn is_process(pairs: &[ProcessPair], real: u32, model: usize) -> bool
 {
     match model_of(pairs, real) {
         None => false,
-        Some(own) => own == model,
+        Some(own) => usize::from(own) == model,
     }
 }
 

@@ -10,7 +10,7 @@ ghost use Rattle.simulator.specs.Views.{result_of};
 ghost use Rattle.records.specs.Calls.{Called, RecordEntry};
 ghost use Rattle.records.specs.EntryViews.{calls_seen, event_seen, made_seen, record_entry_seen};
 ghost use Rattle.records.specs.OperandViews.{operand_seen};
-ghost use Rattle.follow.specs.Standings.{after_shown, after_skip, after_step, first_standing, if_shown, if_skipped, is_counted, is_halt, is_limiting, is_outside, kept, new_namings, skipped};
+ghost use Rattle.follow.specs.Standings.{after_shown, after_skip, after_step, first_standing, if_shown, if_skipped, is_halt, is_limiting, is_outside, kept, new_namings, skipped};
 ghost use Rattle.follow.specs.Standings.{may_overtake, may_skip, next_entry, shows_call, shows_event};
 ghost use Rattle.follow.specs.Views.{entries_behind, if_stands, namings_seen, pairs_of, seen_of, setting_of, standing_of};
 
@@ -75,17 +75,14 @@ pub(crate) fn has_limiting(entries: &[Entry]) -> bool
 fn add_counted<'c>(left: &mut Vec<&'c Entry>, entry: &'c Entry) -> Result<(), Memory>
     ensures { OnOk result (entries_behind left.new.items ≡ entries_behind left.old.items ++ kept (record_entry_seen entry.now)) }
 {
-    match entry.event {
-        Event::Omitted(_) => Ok(()),
-        Event::Called(_) | Event::Ended => {
-            left.push(entry)?;
-            Ok(())
-        }
+    if entry.event.is_counted() {
+        left.push(entry)?;
     }
+    Ok(())
 }
 
-/// The calls and ends of a record.
-fn counted<'c>(alloc: Global, entries: &'c [Entry]) -> Result<Vec<&'c Entry>, Memory>
+/// The calls and ends of a record: what is left out has no place among them. Want of memory is the only error. (own)
+pub fn counted<'c>(alloc: Global, entries: &'c [Entry]) -> Result<Vec<&'c Entry>, Memory>
     ensures { IfOk result (λ left. entries_behind left.items ≡ flat_map kept (calls_seen entries.now)) }
 {
     let mut left = Vec::new(alloc);
@@ -371,6 +368,7 @@ pub(crate) fn after_skip(
     let Some(process) = model_of(setting.pairs, entry.process) else {
         return Ok(false);
     };
+    let process = usize::from(process);
     if !is_outside(processes, process) {
         return Ok(false);
     }

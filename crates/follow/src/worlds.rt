@@ -9,6 +9,7 @@ use fd_table::{End, Object};
 use indexmap::IndexSet;
 use instruction_set::{Instruction, Syscall};
 use rights::limits::{MAX_DESCRIPTORS, MAX_PROCESSES};
+use std::alloc::Global;
 
 /// How many runs are tried at most.
 const MOST_STEPS: usize = 600;
@@ -47,9 +48,11 @@ fn end_of(lead: &Lead<'_>, process: u8, call: &Syscall) -> Option<End> {
     let Some(state) = lead.process(process) else {
         return None;
     };
-    match u8::try_from(value_of(&state.registers, channel)) {
-        Ok(number) => end_at(lead, process, number),
-        Err(_) => None,
+    let number = value_of(&state.registers, channel);
+    if number < MAX_DESCRIPTORS as u32 {
+        end_at(lead, process, number as u8)
+    } else {
+        None
     }
 }
 
@@ -108,6 +111,16 @@ struct Moving<'a> {
 }
 
 impl<'a> Moving<'a> {
+    /// Nothing yet.
+    fn new(alloc: Global) -> Moving<'a> {
+        Moving {
+            met: IndexSet::new(alloc),
+            runs: Leads::new(alloc),
+            next: Leads::new(alloc),
+            helped: 0,
+        }
+    }
+
     /// Adds the run in which something is tried in the last run, if it may be. If that run was met before, it is dropped.
     fn go_to_last(&mut self, trial: Trial, found: &mut Leads<'a>) {
         let Some(run) = self.runs.runs.last() else {
@@ -133,29 +146,28 @@ impl<'a> Moving<'a> {
             self.go_to_last(trial, found);
         }
     }
+
+    /// Moves the world by breadth, until enough is found.
+    fn search(&mut self, lead: &Lead<'a>, trial: Trial, found: &mut Leads<'a>) {
+        add_moved(lead, &mut self.next);
+        self.take_next(trial, found);
+        for place in 0..MOST_STEPS - 1 {
+            if self.helped >= MOST_FOUND {
+                return;
+            }
+            let Some(run) = self.runs.runs.get(place) else {
+                return;
+            };
+            add_moved(run, &mut self.next);
+            self.take_next(trial, found);
+        }
+    }
 }
 
 /// Adds the runs in which the world moves first, by breadth, and then something may be tried, until enough are found.
 pub(crate) fn add_by_world<'a>(lead: &Lead<'a>, trial: Trial, found: &mut Leads<'a>) {
-    let mut moving = Moving {
-        met: IndexSet::new(lead.search.alloc),
-        runs: Leads::new(lead.search.alloc),
-        next: Leads::new(lead.search.alloc),
-        helped: 0,
-    };
-    let moving = &mut moving;
-    add_moved(lead, &mut moving.next);
-    moving.take_next(trial, found);
-    for place in 0..MOST_STEPS - 1 {
-        if moving.helped >= MOST_FOUND {
-            break;
-        }
-        let Some(run) = moving.runs.runs.get(place) else {
-            break;
-        };
-        add_moved(run, &mut moving.next);
-        moving.take_next(trial, found);
-    }
+    let mut moving = Moving::new(lead.search.alloc);
+    moving.search(lead, trial, found);
     if moving.runs.is_short || moving.next.is_short {
         found.is_short = true;
     }
