@@ -11,7 +11,7 @@ use crate::parting::{Held, add_parted};
 use crate::placing_words::placings_in;
 use crate::refusals::Refusal;
 use explore::add_schedule;
-use follow::{Followed, Move, Parted, events_of, follow};
+use follow::{Followed, Move, Parted, counted, events_of, follow};
 use records::{Binding, Entry, Event, MadeCall, Operand, read_calls};
 use rights::Memory;
 use rights::limits::MAX_EVENTS;
@@ -102,17 +102,6 @@ fn count_skipped(alloc: Global, skipped: &mut Vec<Skipped>, entry: &Entry) -> Re
         line,
     })?;
     Ok(())
-}
-
-/// The calls and ends of a record.
-fn counted(alloc: Global, entries: &[Entry]) -> Result<Vec<&Entry>, Memory> {
-    let mut left = Vec::new(alloc);
-    for entry in entries {
-        if !matches!(entry.event, Event::Omitted(_)) {
-            left.push(entry)?;
-        }
-    }
-    Ok(left)
 }
 
 /// What a run shows of a record, by its moves.
