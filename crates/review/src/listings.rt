@@ -222,25 +222,36 @@ fn point_line(
     }
 }
 
+/// The lines of a program's source.
+fn lines_of(
+    room: &mut Room,
+    reviewed: &Reviewed<'_>,
+    viewed: &Viewed<'_>,
+    numbers: &[u8],
+) -> Vec<Line> {
+    let mut lines = room.list();
+    let Some(text) = reviewed.scene.texts.get(usize::from(viewed.number)) else {
+        return lines;
+    };
+    let sources = text.source_lines(room.alloc(), reviewed.scene.file);
+    for source in &room.made(sources) {
+        let line = match source.point {
+            None => other_line(room, source),
+            Some(point) => point_line(room, reviewed, viewed, numbers, source, point),
+        };
+        room.push(&mut lines, line);
+    }
+    lines
+}
+
 /// A program's source, line by line.
 fn listing_of(room: &mut Room, reviewed: &Reviewed<'_>, viewed: &Viewed<'_>) -> Listing {
     let numbers = numbers_of(room, &viewed.bounds);
-    let mut lines = room.list();
-    if let Some(text) = reviewed.scene.texts.get(usize::from(viewed.number)) {
-        let sources = text.source_lines(room.alloc(), reviewed.scene.file);
-        for source in &room.made(sources) {
-            let line = match source.point {
-                None => other_line(room, source),
-                Some(point) => point_line(room, reviewed, viewed, &numbers, source, point),
-            };
-            room.push(&mut lines, line);
-        }
-    }
     Listing {
         program: viewed.named.name,
         is_untrusted: viewed.named.untrusted,
+        lines: lines_of(room, reviewed, viewed, &numbers),
         numbers,
-        lines,
     }
 }
 

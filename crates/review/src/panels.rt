@@ -15,32 +15,48 @@ fn is_granted(grants: &[Grant], node: &TaskNode) -> bool {
     false
 }
 
-/// The panel of a grant: what it allows, and the nodes beneath it by their places from there on.
-pub(crate) fn grant_panel(room: &mut Room, nodes: &[TaskNode], grant: &Grant) -> Panel {
+/// What a grant allows, in words.
+fn allowed(room: &mut Room, grant: &Grant) -> Vec<u8> {
     let mut allows = Page::new(room.alloc());
     say!(&mut allows; if grant.operations.is_empty() { "allows nothing" } else { "allows" });
     for operation in &grant.operations {
         say!(&mut allows; " ", *operation);
     }
+    room.bytes(allows)
+}
+
+/// The place of a node from a grant's path on: nothing where it is that of the path, or doesn't lie there.
+fn place_beneath<'a>(grant: &Grant, node: &'a TaskNode) -> &'a [u8] {
+    if !node.place.begins_with(&grant.path) {
+        return b"";
+    }
+    let front = grant.path.names_text().len();
+    let rest = node.place.names_text().get(front..).unwrap_or(b"");
+    rest.strip_prefix(b"/".as_slice()).unwrap_or(rest)
+}
+
+/// The nodes beneath a grant's path, by their places from there on.
+fn nodes_beneath(room: &mut Room, nodes: &[TaskNode], grant: &Grant) -> Vec<u8> {
     let mut beneath = Page::new(room.alloc());
     let mut separator = "";
-    let front = grant.path.names_text().len();
     for node in nodes {
-        if node.place.begins_with(&grant.path) {
-            if let Some(rest) = node.place.names_text().get(front..) {
-                if !rest.is_empty() {
-                    say!(&mut beneath; separator, rest.strip_prefix(b"/".as_slice()).unwrap_or(rest));
-                    separator = " ";
-                }
-            }
+        let place = place_beneath(grant, node);
+        if !place.is_empty() {
+            say!(&mut beneath; separator, place);
+            separator = " ";
         }
     }
+    room.bytes(beneath)
+}
+
+/// The panel of a grant: what it allows, and the nodes beneath it.
+pub(crate) fn grant_panel(room: &mut Room, nodes: &[TaskNode], grant: &Grant) -> Panel {
     Panel {
         is_grant: true,
         name: room.text(grant.name.as_bytes()),
         path: room.text(grant.path.text()),
-        allows: room.bytes(allows),
-        nodes: room.bytes(beneath),
+        allows: allowed(room, grant),
+        nodes: nodes_beneath(room, nodes, grant),
     }
 }
 

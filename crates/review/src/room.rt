@@ -25,6 +25,11 @@ impl Room {
         self.alloc
     }
 
+    /// Notes that memory was refused for some part.
+    pub(crate) fn fail(&mut self) {
+        self.is_short = true;
+    }
+
     /// Whether memory was refused for some part.
     pub(crate) fn is_short(&self) -> bool {
         self.is_short

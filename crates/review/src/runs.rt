@@ -10,8 +10,8 @@ use explore::{Breach, Deed};
 use instruction_set::Syscall;
 use link_tree::LinkTree;
 use page::{Lane, Message, Piece, Place, Run, Step};
+use rights::Stop;
 use rights::limits::REGISTERS;
-use rights::{Memory, Stop};
 use simulator::{Acted, Line, LineResult, Machine};
 use task::Task;
 use texts::{Page, Say, parts_of, say};
@@ -158,6 +158,15 @@ impl<'a> Player<'a> {
         Ok(())
     }
 
+    /// Does all moves, up to one for which memory is refused.
+    fn play_all(&mut self, room: &mut Room, moves: &[Played]) {
+        for played in moves {
+            if self.play(room, played).is_err() {
+                return room.fail();
+            }
+        }
+    }
+
     /// Keeps what a process did, if it is shown.
     fn keep(&mut self, room: &mut Room, before: Before, acted: Acted) {
         let outcome = acted.outcome;
@@ -194,10 +203,11 @@ impl<'a> Player<'a> {
     }
 }
 
-/// The steps of a run.
-fn steps_of(room: &mut Room, task: &Task, moves: &[Played]) -> Result<Vec<Acting>, Memory> {
+/// The steps of a run, as far as they could be played.
+fn steps_of(room: &mut Room, task: &Task, moves: &[Played]) -> Vec<Acting> {
     let Ok(machine) = Machine::start(room.alloc(), task) else {
-        return Err(Memory);
+        room.fail();
+        return room.list();
     };
     let mut player = Player {
         task,
@@ -206,12 +216,8 @@ fn steps_of(room: &mut Room, task: &Task, moves: &[Played]) -> Result<Vec<Acting
         doings: room.list(),
         steps: room.list(),
     };
-    for played in moves {
-        if player.play(room, played).is_err() {
-            return Err(Memory);
-        }
-    }
-    Ok(player.steps)
+    player.play_all(room, moves);
+    player.steps
 }
 
 /// The processes that act in some steps, as they come first.
@@ -366,31 +372,36 @@ pub(crate) fn end_of(
     room.sentence(end.strip_suffix(b"\n".as_slice()).unwrap_or(&end))
 }
 
+/// The lanes of these processes.
+fn lanes_of(room: &mut Room, steps: &[Acting], processes: &[u8]) -> Vec<Lane> {
+    let mut lanes = room.list();
+    for process in processes {
+        room.push(&mut lanes, lane_of(steps, *process));
+    }
+    lanes
+}
+
 /// The run that breaks something, as a page shows it, with what it breaks.
 pub(crate) fn run_of(
     room: &mut Room,
     reviewed: &Reviewed<'_>,
     moves: &[Played],
     end: Vec<Piece>,
-) -> Result<Run, Memory> {
-    let all = steps_of(room, reviewed.scene.task, moves)?;
+) -> Run {
+    let all = steps_of(room, reviewed.scene.task, moves);
     let first = all.len().saturating_sub(MAX_STEPS);
     let last = all.get(first..).unwrap_or(&[]);
     let processes = acting_processes(room, last);
-    let mut lanes = room.list();
-    for process in &processes {
-        room.push(&mut lanes, lane_of(last, *process));
-    }
     let mut steps = room.list();
     for step in last {
         if let Some(step) = shown_step(room, reviewed, &processes, first, step) {
             room.push(&mut steps, step);
         }
     }
-    Ok(Run {
-        lanes,
+    Run {
+        lanes: lanes_of(room, last, &processes),
         steps,
         left_out: u32::try_from(first).unwrap_or(u32::MAX),
         end,
-    })
+    }
 }

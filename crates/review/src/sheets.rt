@@ -43,12 +43,12 @@ fn broken_rules(room: &mut Room, reviewed: &Reviewed<'_>) -> Vec<RuleText> {
 }
 
 /// The run that breaks something, if one is found.
-fn found_run(room: &mut Room, reviewed: &Reviewed<'_>) -> Result<Option<Run>, Memory> {
+fn found_run(room: &mut Room, reviewed: &Reviewed<'_>) -> Option<Run> {
     match reviewed.outcome {
         Outcome::Broken(found) => {
             let played = played_events(room, &found.events);
             let end = end_of(room, "", &found.breach, &found.detail);
-            Ok(Some(run_of(room, reviewed, &played, end)?))
+            Some(run_of(room, reviewed, &played, end))
         }
         Outcome::Attacked {
             breach,
@@ -56,9 +56,9 @@ fn found_run(room: &mut Room, reviewed: &Reviewed<'_>) -> Result<Option<Run>, Me
             played,
         } => {
             let end = end_of(room, "", breach, detail);
-            Ok(Some(run_of(room, reviewed, played, end)?))
+            Some(run_of(room, reviewed, played, end))
         }
-        Outcome::Accepted | Outcome::Refused | Outcome::Undecided => Ok(None),
+        Outcome::Accepted | Outcome::Refused | Outcome::Undecided => None,
     }
 }
 
@@ -79,20 +79,24 @@ fn command_of(room: &mut Room, reviewed: &Reviewed<'_>) -> Vec<u8> {
     room.text(parts_of!(command, task))
 }
 
-/// The sheet of a page. Want of memory is the only error.
-pub fn sheet_of(alloc: Global, reviewed: &Reviewed<'_>) -> Result<Sheet, Memory> {
-    let mut room = Room::new(alloc);
-    let room = &mut room;
+/// The sheet of a page, as far as there is room for it.
+fn made(room: &mut Room, reviewed: &Reviewed<'_>) -> Sheet {
     let views = views_of(room, reviewed);
-    let sheet = Sheet {
+    Sheet {
         header: header_of(room, reviewed, &views),
-        run: found_run(room, reviewed)?,
+        run: found_run(room, reviewed),
         picture: picture_of(room, reviewed, &views),
         rights: matrix_of(room, reviewed, &views),
         programs: listings_of(room, reviewed, &views),
         rules: broken_rules(room, reviewed),
         command: command_of(room, reviewed),
-    };
+    }
+}
+
+/// The sheet of a page. Want of memory is the only error.
+pub fn sheet_of(alloc: Global, reviewed: &Reviewed<'_>) -> Result<Sheet, Memory> {
+    let mut room = Room::new(alloc);
+    let sheet = made(&mut room, reviewed);
     if room.is_short() {
         return Err(Memory);
     }
