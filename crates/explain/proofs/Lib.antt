@@ -3,3 +3,4 @@ pub mod Tellings
 pub mod Covered
 mod CoveringRows
 pub mod Counted
+mod WordingRows

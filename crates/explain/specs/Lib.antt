@@ -3,3 +3,7 @@ pub mod Covering
 pub mod Telling
 pub mod Breaking
 pub mod PartViews
+pub mod Wording
+pub mod TopicViews
+pub mod SceneViews
+pub mod RuleTexts

@@ -1,5 +1,10 @@
 //! What is observed on a program or a task, as values in words: remarks, and warnings where FreeBSD does otherwise.
 
+ghost use Rattle.std.specs.Prelude.{◌≡◌, false};
+ghost use Rattle.texts.specs.PageViews.{Adds};
+ghost use Rattle.explain.specs.TopicViews.{joint, observation_text};
+ghost use Rattle.explain.specs.Wording.{is_next, joined_points, points_text, ranges_text};
+
 use crate::folding::folded;
 use crate::scenes::Scene;
 use crate::topics::Topic;
@@ -81,38 +86,64 @@ impl Observed {
     }
 }
 
-/// Whether a point is followed by the next number.
-fn goes_on(points: &[usize], at: usize) -> bool {
-    match (points.get(at), points.get(at.saturating_add(1))) {
-        (Some(point), Some(next)) => point.checked_add(1) == Some(*next),
-        _ => false,
+/// Whether the first of some points is the next number behind a point.
+fn is_next(point: usize, points: &[usize]) -> bool
+    ensures { result ≡ is_next point points.now }
+{
+    match points {
+        [] => false,
+        [next, ..] => *next > 0 && *next - 1 == point,
     }
 }
 
-/// Adds points as ranges: `3, 5 to 9`.
-pub fn add_points(page: &mut Page, points: &[usize]) {
-    let mut separator = "";
-    let mut is_within = false;
-    for (at, point) in points.iter().enumerate() {
-        let goes_on = goes_on(points, at);
-        if !is_within {
-            say!(page; separator, *point);
-            separator = ", ";
-        } else if !goes_on {
+/// Adds points as ranges, the first of them behind a separator; or behind a point whose range goes on.
+fn add_ranges(page: &mut Page, separator: &'static str, goes: bool, points: &[usize])
+    ensures { Adds page.old page.new (ranges_text separator.now goes points.now) }
+{
+    match points {
+        [] => {}
+        [point, points @ ..] => {
+            let goes_on = is_next(*point, points);
+            if !goes {
+                say!(page; separator, *point);
+                return add_ranges(page, ", ", goes_on, points);
+            }
+            if goes_on {
+                return add_ranges(page, separator, true, points);
+            }
             say!(page; " to ", *point);
+            add_ranges(page, separator, false, points)
         }
-        is_within = goes_on;
     }
 }
 
-/// What is said of an observation in one line, with its points.
-pub fn line_of(observation: &Observation) -> Page {
+/// Adds points as ranges: `3, 5 to 9`. (own)
+pub fn add_points(page: &mut Page, points: &[usize])
+    ensures { Adds page.old page.new (points_text points.now) }
+{
+    add_ranges(page, "", false, points)
+}
+
+/// Adds what joins points to what is said of them, and the points, if there are any.
+fn add_joined(page: &mut Page, topic: Topic, points: &[usize])
+    ensures { Adds page.old page.new (joined_points (joint topic) points.now) }
+{
+    match points {
+        [] => {}
+        [_, ..] => {
+            say!(page; topic.joint());
+            add_points(page, points)
+        }
+    }
+}
+
+/// What is said of an observation in one line, with its points. (own)
+pub fn line_of(observation: &Observation) -> Page
+    ensures { result.is_short ≡ false → result.bytes.items ≡ observation_text observation.now }
+{
     let mut line = Page::new(observation.words.alloc());
     say!(&mut line; &observation.words);
-    if !observation.points.is_empty() {
-        say!(&mut line; observation.topic.joint());
-        add_points(&mut line, &observation.points);
-    }
+    add_joined(&mut line, observation.topic, &observation.points);
     say!(&mut line; &observation.more);
     line
 }

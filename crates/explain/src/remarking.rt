@@ -14,51 +14,52 @@ use std::alloc::{AllocError, Global};
 use task::{Grant, NamedProgram};
 use texts::{Page, say};
 
-/// Adds what is remarked. What it is about is given.
-fn add_text(page: &mut Page, name: &[u8], remark: &Remark) -> Topic {
+/// What a remark is about.
+fn topic_of(remark: &Remark) -> Topic {
+    match remark {
+        Remark::NeverEnters => Topic::NeverEnters,
+        Remark::Untrusted => Topic::Untrusted,
+        Remark::Unreached { .. } => Topic::Unreached,
+        Remark::Unsettled { .. } => Topic::ModeSkipped,
+        Remark::Stray { .. } => Topic::InNoGrant,
+        Remark::Idle { .. } => Topic::NeverNamed,
+        Remark::Rights { .. } => Topic::RightsUnused,
+        Remark::Commands { .. } => Topic::CommandsUnused,
+        Remark::BothEnds { .. } => Topic::BothEnds,
+        Remark::NeverOpen { .. } => Topic::NeverOpen,
+    }
+}
+
+/// Adds what is remarked.
+fn add_text(page: &mut Page, name: &[u8], remark: &Remark) {
     match remark {
         Remark::NeverEnters => {
-            say!(page; name, " never enters the mode, and a yes does not bound what it does to the tree");
-            Topic::NeverEnters
+            say!(page; name, " never enters the mode, and a yes does not bound what it does to the tree")
         }
         Remark::Untrusted => {
-            say!(page; "in the mode ", name, " may do anything with what its authority has, and its points bound it outside the mode alone");
-            Topic::Untrusted
+            say!(page; "in the mode ", name, " may do anything with what its authority has, and its points bound it outside the mode alone")
         }
         Remark::Unreached { outside_alone } => {
-            say!(page; "nothing arrives");
-            if *outside_alone {
-                say!(page; " outside the mode");
-            }
-            Topic::Unreached
+            say!(page; "nothing arrives", if *outside_alone { " outside the mode" } else { "" })
         }
-        Remark::Unsettled { .. } => {
-            say!(page; "a process may be in the mode or outside it");
-            Topic::ModeSkipped
-        }
+        Remark::Unsettled { .. } => say!(page; "a process may be in the mode or outside it"),
         Remark::Stray { number } => {
-            say!(page; "descriptor ", *number, " may hold what lies in no grant, and the report has no line of it, in the mode");
-            Topic::InNoGrant
+            say!(page; "descriptor ", *number, " may hold what lies in no grant, and the report has no line of it, in the mode")
         }
         Remark::Idle { number } => {
-            say!(page; "descriptor ", *number, " is held in the mode and never named from there on, so it can be closed");
-            Topic::NeverNamed
+            say!(page; "descriptor ", *number, " is held in the mode and never named from there on, so it can be closed")
         }
         Remark::Rights { number, most } => {
-            say!(page; "descriptor ", *number, " could be limited to ", *most, ", since no call from there on can use its other rights, in the mode");
-            Topic::RightsUnused
+            say!(page; "descriptor ", *number, " could be limited to ", *most, ", since no call from there on can use its other rights, in the mode")
         }
         Remark::Commands { number, most } => {
-            say!(page; "descriptor ", *number, " could be limited to the commands ", *most, ", since no call from there on can use its others, in the mode");
-            Topic::CommandsUnused
+            say!(page; "descriptor ", *number, " could be limited to the commands ", *most, ", since no call from there on can use its others, in the mode")
         }
         Remark::BothEnds { number, other } => {
-            say!(page; "one process holds both ends of a pair, descriptors ", *number, " and ", *other, ", from there on");
-            Topic::BothEnds
+            say!(page; "one process holds both ends of a pair, descriptors ", *number, " and ", *other, ", from there on")
         }
         Remark::NeverOpen { number } => {
-            say!(page; "descriptor ", *number, " is never open where the instruction names it");
-            Topic::NeverOpen
+            say!(page; "descriptor ", *number, " is never open where the instruction names it")
         }
     }
 }
@@ -67,8 +68,8 @@ fn add_text(page: &mut Page, name: &[u8], remark: &Remark) -> Topic {
 fn told(alloc: Global, name: &[u8], remarked: Remarked) -> Observation {
     let Remarked { remark, points } = remarked;
     let mut words = Page::new(alloc);
-    let topic = add_text(&mut words, name, &remark);
-    let mut told = Observation::new(topic, words, points);
+    add_text(&mut words, name, &remark);
+    let mut told = Observation::new(topic_of(&remark), words, points);
     match &remark {
         Remark::Untrusted => told.points = Vec::new(alloc),
         Remark::Unsettled { from } => {

@@ -1,9 +1,14 @@
 //! What each rule is called, and what to do where it is broken.
 
+ghost use Rattle.std.specs.Prelude.{◌≡◌, true};
+ghost use Rattle.explain.specs.Wording.{is_one_line};
+
 use checker::{AuthorityRule, CallRule, Rule, SlotRule};
 
-/// What a rule is called.
-pub fn rule_title(rule: Rule) -> &'static str {
+/// What a rule is called, within a line. (own)
+pub fn rule_title(rule: Rule) -> &'static str
+    ensures { is_one_line result.now ≡ true }
+{
     match rule {
         Rule::StartsWithin => "the first state",
         Rule::SuccessesWithin => "where a success leads",
@@ -30,8 +35,10 @@ pub fn rule_title(rule: Rule) -> &'static str {
     }
 }
 
-/// What to do where a rule is broken.
-pub fn rule_advice(rule: Rule) -> &'static str {
+/// What to do where a rule is broken, in a line. (own)
+pub fn rule_advice(rule: Rule) -> &'static str
+    ensures { is_one_line result.now ≡ true }
+{
     match rule {
         Rule::StartsWithin => "Widen the bound of point 0.",
         Rule::SuccessesWithin | Rule::ErrorsWithin =>
@@ -59,7 +66,9 @@ pub fn rule_advice(rule: Rule) -> &'static str {
 }
 
 /// What to do where a rule on slots is broken.
-fn slot_rule_advice(rule: SlotRule) -> &'static str {
+fn slot_rule_advice(rule: SlotRule) -> &'static str
+    ensures { is_one_line result.now ≡ true }
+{
     match rule {
         SlotRule::Rights => "Keep the right in the limits before it, or leave the call out.",
         SlotRule::Commands => "Keep the command in the limits before it, or leave the call out.",

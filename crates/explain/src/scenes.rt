@@ -1,6 +1,8 @@
 //! What is explained: a task with its file, and a certificate in which all bounds are written.
 
 ghost use Rattle.std.specs.Prelude.{◌≡◌, ◌≤◌, Some, length, true};
+ghost use Rattle.std.specs.List.{slice_get};
+ghost use Rattle.explain.specs.SceneViews.{shown_line, shown_text};
 ghost use Rattle.explain.specs.Telling.{point_with_line};
 ghost use Rattle.instruction_set.specs.Views.{code_of, instruction_of};
 ghost use Rattle.task.specs.Plans.{program_name, programs_of_plan};
@@ -68,8 +70,11 @@ impl<'a> Scene<'a> {
         }
     }
 
-    /// The instruction of a point as it is written, and its line in the file.
-    pub fn written(&self, program: u8, point: u8) -> Written<'a> {
+    /// The instruction of a point as it is written, and its line in the file; nothing and 0 where that isn't known. (own)
+    pub fn written(&self, program: u8, point: u8) -> Written<'a>
+        ensures text { result.text.now ≡ shown_text (slice_get self.now.texts.now program) point }
+        ensures line { result.line ≡ shown_line self.now.file.now (slice_get self.now.texts.now program) point }
+    {
         match self.texts.get(usize::from(program)) {
             Some(text) => text.written_at(self.file, usize::from(point)),
             None => Written { text: &[], line: 0 },

@@ -1,5 +1,8 @@
 //! The rules, each in a sentence with what it compares at a point that breaks it.
 
+ghost use Rattle.std.specs.Prelude.{◌≡◌, false};
+ghost use Rattle.explain.specs.RuleTexts.{BeginsWithRule, rule_words, slot_rule_words};
+
 use crate::arriving::{Leads, add_narrow, add_unbound};
 use crate::authority_rules::{add_authority, add_started, add_taken};
 use crate::call_rules::{Told, add_call_rule};
@@ -14,8 +17,10 @@ use task::is_marked;
 use texts::{Name, Page, say};
 use transfer::{Site, enters_mode};
 
-/// What a rule asks, in a sentence.
-pub fn rule_words(rule: Rule) -> &'static str {
+/// What a rule asks, in a sentence. (own)
+pub fn rule_words(rule: Rule) -> &'static str
+    ensures { result.now ≡ rule_words rule }
+{
     match rule {
         Rule::StartsWithin => "the bound of point 0 is too narrow for how a process starts",
         Rule::SuccessesWithin => "a success leads to a point whose bound is too narrow for it",
@@ -43,7 +48,9 @@ pub fn rule_words(rule: Rule) -> &'static str {
 }
 
 /// What a rule on each slot that a call goes through asks.
-fn general_of_slot(rule: SlotRule) -> &'static str {
+fn general_of_slot(rule: SlotRule) -> &'static str
+    ensures { result.now ≡ slot_rule_words rule }
+{
     match rule {
         SlotRule::Rights => "each right that a call needs is surely held",
         SlotRule::Commands => "each command that a call needs is surely held",
@@ -136,8 +143,10 @@ fn add_detail(page: &mut Page, scene: &Scene<'_>, found: BrokenRule) {
     add_compared(page, scene, &at, found.rule)
 }
 
-/// What a rule that is broken at a point asks, and what it compares there, in one line.
-pub fn finding_words(alloc: Global, scene: &Scene<'_>, found: BrokenRule) -> Page {
+/// What a rule that is broken at a point asks, and what it compares there, in one line. (own)
+pub fn finding_words(alloc: Global, scene: &Scene<'_>, found: BrokenRule) -> Page
+    ensures { result.is_short ≡ false → BeginsWithRule found.rule result.bytes.items }
+{
     let mut detail = Page::new(alloc);
     add_detail(&mut detail, scene, found);
     let mut sentence = Page::new(alloc);

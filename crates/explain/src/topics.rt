@@ -1,5 +1,9 @@
 //! What remarks and warnings are about: the name of each matter, its heading, and what it means.
 
+ghost use Rattle.std.specs.Prelude.{◌≡◌, true};
+ghost use Rattle.explain.specs.TopicViews.{joint, topic_name};
+ghost use Rattle.explain.specs.Wording.{is_one_line};
+
 /// What is remarked, or warned of.
 #[derive(Clone, Copy, PartialEq, Eq)]
 pub enum Topic {
@@ -40,8 +44,10 @@ pub const REMARK_TOPICS: [Topic; 14] = [
 ];
 
 impl Topic {
-    /// Its name, in letters and `-`.
-    pub fn name(self) -> &'static str {
+    /// Its name, in letters and `-`. (own)
+    pub fn name(self) -> &'static str
+        ensures { result.now ≡ topic_name self }
+    {
         match self {
             Topic::NeverEnters => "never-enters",
             Topic::Untrusted => "untrusted",
@@ -61,8 +67,10 @@ impl Topic {
         }
     }
 
-    /// Its heading, without a full stop.
-    pub fn heading(self) -> &'static str {
+    /// Its heading, without a full stop, within a line. (own)
+    pub fn heading(self) -> &'static str
+        ensures { is_one_line result.now ≡ true }
+    {
         match self {
             Topic::NeverEnters => "Never in the mode",
             Topic::Untrusted => "Untrusted",
@@ -83,15 +91,19 @@ impl Topic {
     }
 
     /// What joins the points to what is said of it.
-    pub(crate) fn joint(self) -> &'static str {
+    pub(crate) fn joint(self) -> &'static str
+        ensures { result.now ≡ joint self }
+    {
         match self {
             Topic::NeverEnters | Topic::NeverNamed | Topic::BothEnds | Topic::NeverOpen => ", at ",
             _ => " at ",
         }
     }
 
-    /// What it means, in a sentence.
-    pub fn meaning(self) -> &'static str {
+    /// What it means, in a sentence and a line. (own)
+    pub fn meaning(self) -> &'static str
+        ensures { is_one_line result.now ≡ true }
+    {
         match self {
             Topic::NeverEnters =>
                 "No process of the program enters the mode, so a yes says little of it.",
