@@ -1,5 +1,9 @@
 //! The moves of a run, as they are played again.
 
+ghost use Rattle.std.specs.Prelude.{◌≡◌, IfOk, map};
+ghost use Rattle.explore.specs.MoveViews.{move_of};
+ghost use Rattle.review.specs.PlayedViews.{move_played};
+
 use crate::room::Room;
 use explore::{Deed, Move};
 use rights::Memory;
@@ -14,7 +18,9 @@ pub struct Played {
 }
 
 /// A move.
-fn played_move(alloc: Global, next: &Move<'_>) -> Result<Played, Memory> {
+fn played_move(alloc: Global, next: &Move<'_>) -> Result<Played, Memory>
+    ensures { IfOk result (λ played. move_played played ≡ move_of next.now) }
+{
     let deed = match next.deed {
         Some(deed) => Some(Deed::new(alloc, deed.instruction())?),
         None => None,
@@ -26,7 +32,9 @@ fn played_move(alloc: Global, next: &Move<'_>) -> Result<Played, Memory> {
 }
 
 /// Moves of a run that was found. Want of memory is the only error.
-pub fn played_moves(alloc: Global, moves: &[Move<'_>]) -> Result<Vec<Played>, Memory> {
+pub fn played_moves(alloc: Global, moves: &[Move<'_>]) -> Result<Vec<Played>, Memory>
+    ensures { IfOk result (λ all. map move_played all.items ≡ map move_of moves.now) }
+{
     let mut all = Vec::new(alloc);
     for next in moves {
         all.push(played_move(alloc, next)?)?;
