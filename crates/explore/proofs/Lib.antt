@@ -3,5 +3,7 @@ pub mod Shown
 pub mod Refuting
 pub mod MayDo
 pub mod Watching
+pub mod Taking
 pub mod Written
 pub mod Samples
+pub mod TakingRows

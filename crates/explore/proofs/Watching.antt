@@ -40,6 +40,31 @@ same-broken plan w v e act line j k differs same is =
     ∙ ap (λ acted. breach_in plan.grants (slice_get w.processes e.process) (option_map shown_step acted)) (sym same)
     ∙ ap (λ (l : Line). breach_in plan.grants (slice_get w.processes e.process) l.acted) (sym is)
 
+-- A machine's step, and one beside it: from a world that differs in numbers alone, the line is the same, and so is the next world but for numbers.
+pub record Beside (programs : Programs) (w v next : World) (e : Event) (act : Act) (j k : Choice) : Type 0 where
+  pub line : (step_as programs w e act k).acted ≡ (step_as programs v e act j).acted
+  pub formed : IsWellFormed programs (step_as programs v e act j).world
+  pub differs : DiffersInNumbers (step_as programs v e act j).world next
+
+pub beside : (plan : Plan) (w v next : World) (e : Event) (act : Act) (line : Line) (choice : Choice) → is_plan plan ≡ true →
+    IsWellFormed (programs_of_plan plan) w → IsWellFormed (programs_of_plan plan) v → IsEvent e →
+    ((u : World) → IsWellFormed (programs_of_plan plan) u → IsAct (programs_of_plan plan) u e.process act) → DiffersInNumbers v w →
+    (s : StepsMachineAs (programs_of_plan plan) w e act line next) → IsFresh v.files choice → Beside (programs_of_plan plan) w v next e act choice s.choice
+beside plan w v next e act line choice valid good fine byte may differs s fresh =
+    let programs : Programs = programs_of_plan plan in
+    let formed : ArePrograms programs = (first_well_formed plan valid).0 in
+    let there = about_well_formed programs v e.process act fine (may v fine) in
+    let here : IsFresh (about v e.process act).files choice = subst (λ f. IsFresh f choice) (sym (files_about v e.process act)) fresh in
+    let both =
+    steps_alike programs (about v e.process act) (about w e.process act) e choice s.choice formed there (about_well_formed programs w e.process act good (may w good))
+    (differs_about v w e.process act differs) here s.fresh
+    in
+    record {
+      line = both.line;
+      formed = (next_formed programs (about v e.process act) e formed there byte).each choice here;
+      differs = differs_twice _ _ _ both.next (alike_share _ _ s.world_is);
+    }
+
 pub leads-step : (plan : Plan) (moves : List Move) (w next : World) (before breach : Option Breach) (e : Event) (act : Act) (left : List Move) (line : Line) →
     is_plan plan ≡ true → IsWellFormed (programs_of_plan plan) w → IsEvent e →
     ((v : World) → IsWellFormed (programs_of_plan plan) v → IsAct (programs_of_plan plan) v e.process act) →
@@ -50,25 +75,14 @@ leads-step plan moves w next before breach e act left line valid good byte may s
     programs : Programs
     programs = programs_of_plan plan
 
-    formed : ArePrograms programs
-    formed = (first_well_formed plan valid).0
-
-    fresh_about : (v : World) (choice : Choice) → IsFresh v.files choice → IsFresh (about v e.process act).files choice
-    fresh_about v choice fresh = subst (λ f. IsFresh f choice) (sym (files_about v e.process act)) fresh
-
     go : (v : World) → IsWellFormed programs v → DiffersInNumbers v w → EndsWith programs plan.grants v before ((e, act) ∷ left) last
     go v fine differs = (
       may v fine,
       λ choice fresh.
-          let there = about_well_formed programs v e.process act fine (may v fine) in
-          let both =
-          steps_alike programs (about v e.process act) (about w e.process act) e choice s.choice formed there (about_well_formed programs w e.process act good (may w good))
-          (differs_about v w e.process act differs) (fresh_about v choice fresh) s.fresh
-          in
+          let other = beside plan w v next e act line choice valid good fine byte may differs s fresh in
           subst (λ b. EndsWith programs plan.grants (step_as programs v e act choice).world b left last)
-          (is ∙ sym (same-broken plan w v e act line choice s.choice differs both.line s.line_is))
-          (ends (step_as programs v e act choice).world ((next_formed programs (about v e.process act) e formed there byte).each choice (fresh_about v choice fresh))
-          (differs_twice _ _ _ both.next (alike_share _ _ s.world_is))),
+          (is ∙ sym (same-broken plan w v e act line choice s.choice differs other.line s.line_is))
+          (ends (step_as programs v e act choice).world other.formed other.differs),
     )
 
 pub leads-end : (plan : Plan) (moves : List Move) (w : World) (before : Option Breach) → Leads plan moves w before [] → Breaks plan moves before

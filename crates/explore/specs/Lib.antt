@@ -3,6 +3,8 @@ pub mod Breaches
 pub mod Broken
 pub mod BreachViews
 pub mod MoveViews
+pub mod Takeovers
+pub mod TakeoverViews
 pub mod Texts
 pub mod FoundViews
 pub mod Moves

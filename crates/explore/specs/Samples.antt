@@ -1,14 +1,16 @@
--- Runs that break something, each in another way, and runs that don't.
-use Rattle.std.specs.Prelude.{ℕ, false, [], ◌∷◌, codes, Some, None}
+-- Runs that break something, each in another way, and runs that don't; and runs in which processes are taken over.
+use Rattle.std.specs.Prelude.{ℕ, true, false, [], ◌∷◌, codes, Some, None}
 use Rattle.rights.specs.Operations.{Write, Create}
-use Rattle.instruction_set.specs.Programs.{Invoke, Mkdirat, Number, Sendfd, Syscall}
+use Rattle.instruction_set.specs.Programs.{Cap_enter, Close, Fork, Halt, Invoke, Mkdirat, Number, Sendfd, Syscall}
 use Rattle.kernel.specs.Answers.{Event}
 use Rattle.kernel.specs.Hostile.{Own, Does}
-use Rattle.task.specs.Breaches.{reading_plan, opening_plan, writing_plan, moving_plan}
+use Rattle.task.specs.Breaches.{reading_plan, opening_plan, writing_plan, moving_plan, small_tree}
 use Rattle.task.specs.Escapes.{making_plan, trusting_plan}
+use Rattle.task.specs.Plans.{Plan, unmarked}
 use Rattle.explore.specs.Attacks.{deed_by}
 use Rattle.explore.specs.Breaches.{Outside, Missing_right, Capability_mode}
 use Rattle.explore.specs.Broken.{Breaks, Move}
+use Rattle.explore.specs.Takeovers.{Begins, Entry, Enters_at, Inherits, Takeover, TakesOver}
 
 -- an event of a process
 abbrev pub event_of_process : ℕ → Event
@@ -34,3 +36,31 @@ pub record SomeRunsBreak : Type 0 where
   pub sent : Breaks trusting_plan (child_calls (Sendfd (Number 0) (Number 1) (Number 0)) ∷ first_moves ∷ first_moves ∷ []) (Some Missing_right)
   pub only_sent : Breaks trusting_plan (child_calls (Sendfd (Number 0) (Number 1) (Number 0)) ∷ first_moves ∷ []) None
   pub as_written : Breaks making_plan ((event_of_process 1, Own) ∷ []) None
+
+-- the first process makes this call, whatever its program has
+abbrev pub first_calls : Syscall → Move
+first_calls call = (event_of_process 0, Does (deed_by (Invoke call 0)))
+
+-- its one process, of an untrusted program, enters the mode and makes a child
+abbrev pub entering_plan : Plan
+entering_plan = record {
+  nodes = small_tree;
+  grants = [];
+  programs = record (unmarked (codes "main") (Invoke Cap_enter 2 ∷ Invoke Fork 2 ∷ Halt ∷ [])) { marked = true } ∷ [];
+  starts = record { program = 0; mode = false; descriptors = [] } ∷ [];
+}
+
+abbrev pub taken : ℕ → ℕ → Entry → Takeover
+taken process program entry = record { process = process; program = program; entry = entry }
+
+pub record SomeAreTakenOver : Type 0 where
+  pub at_start : TakesOver making_plan (child_calls (Mkdirat (Number 1) (codes "x")) ∷ []) (taken 1 1 Begins ∷ [])
+  pub by_call : TakesOver entering_plan (first_moves ∷ first_calls (Close (Number 0)) ∷ []) (taken 0 0 (Enters_at 0) ∷ [])
+  -- a child, before the parent by whose call it is in the mode
+  pub by_parent :
+      TakesOver entering_plan (first_moves ∷ first_moves ∷ child_calls (Close (Number 0)) ∷ first_calls (Close (Number 0)) ∷ [])
+      (taken 1 0 Inherits ∷ taken 0 0 (Enters_at 0) ∷ [])
+  -- outside the mode no deed is done, nor by a trusted process, nor where none is to be done
+  pub too_early : TakesOver entering_plan (first_calls (Close (Number 0)) ∷ []) []
+  pub trusted : TakesOver making_plan (first_calls (Close (Number 0)) ∷ []) []
+  pub as_written : TakesOver making_plan ((event_of_process 1, Own) ∷ []) []

@@ -1,7 +1,7 @@
 //! Laws of runs that break something. Each is the contract of a function that does nothing.
 
 ghost use Rattle.explore.specs.Broken.{BreachesRefute};
-ghost use Rattle.explore.specs.Samples.{SomeRunsBreak};
+ghost use Rattle.explore.specs.Samples.{SomeAreTakenOver, SomeRunsBreak};
 
 /// A task some run of which breaks something at its last step isn't confined, and without an attacker's move it isn't sandboxed.
 pub fn breaches_refute()
@@ -14,4 +14,10 @@ pub fn breaches_refute()
 /// refused for. The first step of a run of two breaks nothing, and neither does no step, nor what the attacked program has.
 pub fn some_runs_break()
     ensures { SomeRunsBreak }
+{}
+
+/// To be taken over says something. A process is so that starts in the mode, one that enters it by the first instruction of its program, and a
+/// child that is in it by that, before its parent. None is so at a deed outside the mode, at one of a trusted program, and without a deed.
+pub fn some_processes_are_taken_over()
+    ensures { SomeAreTakenOver }
 {}
