@@ -7,3 +7,5 @@ pub mod Taking
 pub mod Written
 pub mod Samples
 pub mod TakingRows
+pub mod Trying
+pub mod TriedRows

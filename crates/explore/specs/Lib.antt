@@ -1,6 +1,7 @@
 pub mod Attacks
 pub mod Breaches
 pub mod Broken
+pub mod DeedViews
 pub mod BreachViews
 pub mod MoveViews
 pub mod Takeovers

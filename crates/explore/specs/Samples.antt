@@ -1,13 +1,13 @@
--- Runs that break something, each in another way, and runs that don't; and runs in which processes are taken over.
+-- Runs that break something, each in another way, and runs that don't; runs in which processes are taken over; and what is tried of tasks.
 use Rattle.std.specs.Prelude.{ℕ, true, false, [], ◌∷◌, codes, Some, None}
 use Rattle.rights.specs.Operations.{Write, Create}
-use Rattle.instruction_set.specs.Programs.{Cap_enter, Close, Fork, Halt, Invoke, Mkdirat, Number, Sendfd, Syscall}
+use Rattle.instruction_set.specs.Programs.{Cap_enter, Close, Fork, Halt, Invoke, Mkdirat, Number, Read, Register, Sendfd, Syscall}
 use Rattle.kernel.specs.Answers.{Event}
 use Rattle.kernel.specs.Hostile.{Own, Does}
 use Rattle.task.specs.Breaches.{reading_plan, opening_plan, writing_plan, moving_plan, small_tree}
 use Rattle.task.specs.Escapes.{making_plan, trusting_plan}
 use Rattle.task.specs.Plans.{Plan, unmarked}
-use Rattle.explore.specs.Attacks.{deed_by}
+use Rattle.explore.specs.Attacks.{AreTried, GoesBy, deed_by}
 use Rattle.explore.specs.Breaches.{Outside, Missing_right, Capability_mode}
 use Rattle.explore.specs.Broken.{Breaks, Move}
 use Rattle.explore.specs.Takeovers.{Begins, Entry, Enters_at, Inherits, Takeover, TakesOver}
@@ -64,3 +64,11 @@ pub record SomeAreTakenOver : Type 0 where
   pub too_early : TakesOver entering_plan (first_calls (Close (Number 0)) ∷ []) []
   pub trusted : TakesOver making_plan (first_calls (Close (Number 0)) ∷ []) []
   pub as_written : TakesOver making_plan ((event_of_process 1, Own) ∷ []) []
+
+pub record SomeAreTried : Type 0 where
+  pub goes : GoesBy 1 (Invoke (Sendfd (Number 1) (Number 0) (Number 0)) 0)
+  pub other_number : GoesBy 0 (Invoke (Sendfd (Number 1) (Number 0) (Number 0)) 0) → ⊥
+  pub in_register : GoesBy 1 (Invoke (Read (Register 1)) 0) → ⊥
+  pub without_descriptor : GoesBy 0 (Invoke Fork 0) → ⊥
+  pub not_marked : AreTried reading_plan []
+  pub none_where_marked : AreTried making_plan [] → ⊥

@@ -1,10 +1,15 @@
 //! What attackers do: processes of untrusted programs in capability mode, which may do anything.
 
-ghost use Rattle.std.specs.Prelude.{◌≡◌, IfOk, true};
+ghost use Rattle.std.specs.Prelude.{◌≡◌, IfOk, Some, length, map, true};
+ghost use Rattle.rights.specs.Limits.{most_descriptors};
+ghost use Rattle.instruction_set.specs.CallNeeds.{first_operand};
 ghost use Rattle.instruction_set.specs.Paths.{calls_with_valid_paths};
-ghost use Rattle.instruction_set.specs.Views.{instruction_of};
+ghost use Rattle.instruction_set.specs.Programs.{Number};
+ghost use Rattle.instruction_set.specs.Views.{instruction_of, syscall_of};
 ghost use Rattle.kernel.specs.Hostile.{Own};
 ghost use Rattle.syscalls.specs.Views.{event_of};
+ghost use Rattle.explore.specs.Attacks.{AreTried, AreTriedByEach, GoBy, GoesBy, IsTriedBy, limit_by, limits_by};
+ghost use Rattle.explore.specs.DeedViews.{deeds_in};
 ghost use Rattle.explore.specs.MoveViews.{move_of};
 
 use crate::moves::bytes_to_try;
@@ -86,10 +91,20 @@ pub(crate) struct ByNumber {
     pub limits: Vec<Deed>,
 }
 
-/// The deeds that are tried, by the number of the descriptor by which they go.
+/// The deeds that are tried, by the number of the descriptor by which they go. A clause sees the list of their instructions of each number.
 #[derive(Drop)]
 pub struct Deeds {
     by_number: Vec<ByNumber>,
+}
+
+impl Model for Deeds {
+    ghost use Rattle.std.specs.Prelude.{List, map};
+    ghost use Rattle.instruction_set.specs.Programs.{Instruction};
+    ghost use Rattle.explore.specs.DeedViews.{deeds_in};
+
+    ghost Value = { List (List Instruction) };
+
+    ghost view = { λ d. map deeds_in d.by_number.items };
 }
 
 /// What is tried of a name beneath a directory.
@@ -101,7 +116,7 @@ enum OnName {
     Remove { directory: bool },
 }
 
-/// The deeds by the descriptor of a number, as they grow. Where memory is refused, one is left out, and that is noted.
+/// The deeds by the descriptor of a number, as they grow. Where memory is refused, one is left out, and that is noted. A clause sees the number.
 #[derive(Drop)]
 struct Growing {
     alloc: Global,
@@ -110,24 +125,59 @@ struct Growing {
     is_short: bool,
 }
 
+impl Model for Growing {
+    ghost use Rattle.std.specs.Prelude.{ℕ};
+    ghost use Rattle.explore.specs.Attacks.{GoBy};
+
+    ghost Value = { ℕ };
+
+    ghost view = { λ g. g.number };
+
+    ghost invariant = { λ g. GoBy g.number g.deeds.items };
+}
+
 impl Growing {
-    /// Adds a call.
-    fn add(&mut self, call: Syscall) {
+    /// Adds a deed that goes by the descriptor, if there is memory for it.
+    fn push(&mut self, deed: Deed) -> Result<(), Memory>
+        requires { GoesBy self.old deed }
+        ensures { self.new ≡ self.old }
+    {
+        self.deeds.push(deed)?;
+        Ok(())
+    }
+
+    /// Adds a call that goes by the descriptor, if there is memory for it.
+    fn add_deed(&mut self, call: Syscall) -> Result<(), Memory>
+        requires { first_operand (syscall_of call) ≡ Some (Number self.old) }
+        ensures { self.new ≡ self.old }
+    {
         let instruction = Instruction::Invoke { call, otherwise: 0 };
-        let is_added = match Deed::new(self.alloc, &instruction) {
-            Ok(deed) => self.deeds.push(deed).is_ok(),
-            Err(_) => false,
-        };
-        self.is_short = self.is_short || !is_added;
+        let deed = Deed::new(self.alloc, &instruction)?;
+        self.push(deed)
+    }
+
+    /// Adds a call that goes by the descriptor.
+    fn add(&mut self, call: Syscall)
+        requires { first_operand (syscall_of call) ≡ Some (Number self.old) }
+        ensures { self.new ≡ self.old }
+    {
+        if self.add_deed(call).is_err() {
+            self.is_short = true;
+        }
     }
 
     /// Those that were added since the last time.
-    fn take(&mut self) -> Vec<Deed> {
+    fn take(&mut self) -> Vec<Deed>
+        ensures same { self.new ≡ self.old }
+        ensures taken { GoBy self.old result.items }
+    {
         mem::replace(&mut self.deeds, Vec::new(self.alloc))
     }
 
     /// The path of a name, if it is one that a program may have, and there is memory for it.
-    fn path(&mut self, name: &[u8]) -> Option<Path> {
+    fn path(&mut self, name: &[u8]) -> Option<Path>
+        ensures { self.new ≡ self.old }
+    {
         let Ok(bytes) = Vec::from_slice(self.alloc, name) else {
             self.is_short = true;
             return None;
@@ -139,7 +189,9 @@ impl Growing {
     }
 
     /// Adds a call on a name beneath a directory.
-    fn add_on(&mut self, name: &[u8], what: OnName) {
+    fn add_on(&mut self, name: &[u8], what: OnName)
+        ensures { self.new ≡ self.old }
+    {
         let Some(path) = self.path(name) else {
             return;
         };
@@ -161,14 +213,18 @@ impl Growing {
     }
 
     /// Adds an open of a name.
-    fn add_open(&mut self, name: &[u8], flags: Option<OpenFlags>) {
+    fn add_open(&mut self, name: &[u8], flags: Option<OpenFlags>)
+        ensures { self.new ≡ self.old }
+    {
         if let Some(flags) = flags {
             self.add_on(name, OnName::Open(flags));
         }
     }
 
     /// Adds the move of a name to a new one, beneath the directory of another number.
-    fn add_move(&mut self, name: &[u8], target: u32) {
+    fn add_move(&mut self, name: &[u8], target: u32)
+        ensures { self.new ≡ self.old }
+    {
         if let (Some(path), Some(new_path)) = (self.path(name), self.path(NEW_NAME)) {
             self.add(Syscall::Renameat {
                 descriptor: Operand::Number(self.number),
@@ -180,7 +236,9 @@ impl Growing {
     }
 
     /// Adds what may be tried of a name that is there.
-    fn add_name(&mut self, name: &[u8]) {
+    fn add_name(&mut self, name: &[u8])
+        ensures { self.new ≡ self.old }
+    {
         self.add_open(name, OpenFlags::new(true, false, false, false, false));
         self.add_open(name, OpenFlags::new(false, true, true, false, false));
         self.add_open(name, OpenFlags::new(false, true, false, false, true));
@@ -193,7 +251,9 @@ impl Growing {
     }
 
     /// Adds what may be tried of a file or directory, of an end of a socket pair, or of both.
-    fn add_plain(&mut self, bytes: &[u8]) {
+    fn add_plain(&mut self, bytes: &[u8])
+        ensures { self.new ≡ self.old }
+    {
         let number = self.number;
         self.add(Syscall::Read {
             descriptor: Operand::Number(number),
@@ -240,8 +300,31 @@ fn names_to_try(alloc: Global, task: &Task) -> Result<Vec<&[u8]>, Memory> {
     Ok(names)
 }
 
-/// What may be tried by the descriptor of a number, whatever it is of; of limits that it leaves nothing, or writing alone.
-fn deeds_by(alloc: Global, number: u32, names: &[&[u8]], bytes: &[u8]) -> Result<ByNumber, Memory> {
+/// The deed that limits the descriptor of a number to some rights.
+fn limit_by(alloc: Global, number: u32, rights: Rights) -> Result<Deed, Memory>
+    ensures { IfOk result (λ deed. deed ≡ limit_by number rights.0) }
+{
+    let call = Syscall::CapRightsLimit {
+        descriptor: Operand::Number(number),
+        rights,
+    };
+    Deed::new(alloc, &Instruction::Invoke { call, otherwise: 0 })
+}
+
+/// What may be tried of limits by the descriptor of a number: that it leaves nothing, or writing alone.
+fn limits_by(alloc: Global, number: u32) -> Result<Vec<Deed>, Memory>
+    ensures { IfOk result (λ limits. limits.items ≡ limits_by number) }
+{
+    let mut limits = Vec::new(alloc);
+    limits.push(limit_by(alloc, number, Rights::empty())?)?;
+    limits.push(limit_by(alloc, number, Rights::WRITE)?)?;
+    Ok(limits)
+}
+
+/// What may be tried by the descriptor of a number, whatever it is of.
+fn deeds_by(alloc: Global, number: u32, names: &[&[u8]], bytes: &[u8]) -> Result<ByNumber, Memory>
+    ensures { IfOk result (λ deeds. IsTriedBy number (deeds_in deeds)) }
+{
     let mut growing = Growing {
         alloc,
         number,
@@ -255,34 +338,43 @@ fn deeds_by(alloc: Global, number: u32, names: &[&[u8]], bytes: &[u8]) -> Result
     for name in names {
         growing.add_name(name);
     }
-    let named = growing.take();
-    for rights in [Rights::empty(), Rights::WRITE] {
-        growing.add(Syscall::CapRightsLimit {
-            descriptor: Operand::Number(number),
-            rights,
-        });
-    }
     if growing.is_short {
         return Err(Memory);
     }
+    let limits = limits_by(alloc, number)?;
     Ok(ByNumber {
         plain,
-        named,
-        limits: growing.deeds,
+        named: growing.deeds,
+        limits,
     })
 }
 
+/// What may be tried by the descriptor of each number.
+fn deeds_by_each(alloc: Global, task: &Task) -> Result<Vec<ByNumber>, Memory>
+    ensures numbers { IfOk result (λ found. length found.items ≡ most_descriptors) }
+    ensures calls { IfOk result (λ found. AreTriedByEach (map deeds_in found.items)) }
+{
+    let names = names_to_try(alloc, task)?;
+    let bytes = bytes_to_try(alloc, task)?;
+    let mut by_number = Vec::new(alloc);
+    for number in 0..MAX_DESCRIPTORS as u32 {
+        by_number.push(deeds_by(alloc, number, &names, &bytes)?)?;
+    }
+    Ok(by_number)
+}
+
 impl Deeds {
-    /// What attackers of a task may try; nothing where no program is untrusted.
-    pub fn new(alloc: Global, task: &Task) -> Result<Deeds, Memory> {
-        let mut by_number = Vec::new(alloc);
-        if !none_marked(task.programs()) {
-            let names = names_to_try(alloc, task)?;
-            let bytes = bytes_to_try(alloc, task)?;
-            for number in 0..MAX_DESCRIPTORS as u32 {
-                by_number.push(deeds_by(alloc, number, &names, &bytes)?)?;
-            }
+    /// What attackers of a task may try: nothing where no program is untrusted, and else calls by each number that a descriptor may have. Want of
+    /// memory is the only error.
+    pub fn new(alloc: Global, task: &Task) -> Result<Deeds, Memory>
+        ensures { IfOk result (λ deeds. AreTried task.now deeds) }
+    {
+        if none_marked(task.programs()) {
+            return Ok(Deeds {
+                by_number: Vec::new(alloc),
+            });
         }
+        let by_number = deeds_by_each(alloc, task)?;
         Ok(Deeds { by_number })
     }
 

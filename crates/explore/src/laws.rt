@@ -1,7 +1,7 @@
 //! Laws of runs that break something. Each is the contract of a function that does nothing.
 
 ghost use Rattle.explore.specs.Broken.{BreachesRefute};
-ghost use Rattle.explore.specs.Samples.{SomeAreTakenOver, SomeRunsBreak};
+ghost use Rattle.explore.specs.Samples.{SomeAreTakenOver, SomeAreTried, SomeRunsBreak};
 
 /// A task some run of which breaks something at its last step isn't confined, and without an attacker's move it isn't sandboxed.
 pub fn breaches_refute()
@@ -20,4 +20,11 @@ pub fn some_runs_break()
 /// child that is in it by that, before its parent. None is so at a deed outside the mode, at one of a trusted program, and without a deed.
 pub fn some_processes_are_taken_over()
     ensures { SomeAreTakenOver }
+{}
+
+/// To go by a descriptor, and to be tried, says something. A call that sends one descriptor through another goes by the other; no call goes by a
+/// number that it reads in a register, and one without a descriptor goes by none. Nothing is what is tried of a task without an untrusted
+/// program, and not of one with such a program.
+pub fn some_deeds_are_tried()
+    ensures { SomeAreTried }
 {}
