@@ -81,8 +81,8 @@ fn no_witness(alloc: Global) -> Witness {
     }
 }
 
-/// Whether a process of the task is of a program `world`.
-fn is_of_world(task: &Task, start: &Start) -> bool {
+/// Whether a first process plays the world: it is of a program `world`.
+fn plays_world(task: &Task, start: &Start) -> bool {
     task.program_name(start.program) == b"world".as_slice()
 }
 
@@ -92,7 +92,7 @@ fn pairs_of(alloc: Global, task: &Task, first: &[u32]) -> Result<Vec<ProcessPair
     let mut model: u8 = 0;
     for start in task.starts() {
         let at = pairs.len();
-        if at < first.len() && !is_of_world(task, start) {
+        if at < first.len() && !plays_world(task, start) {
             let real = first[at];
             pairs.push(ProcessPair { real, model })?;
         }

@@ -2,7 +2,6 @@
 
 ghost use Rattle.std.specs.Prelude.{◌≡◌, ◌++◌, IfOk, OnOk};
 ghost use Rattle.std.specs.List.{flat_map};
-ghost use Rattle.records.specs.Accounts.{is_listed as is_listed_in};
 ghost use Rattle.records.specs.Beginnings.{children_in, first_processes, is_of_new};
 ghost use Rattle.records.specs.Calls.{RecordEntry};
 ghost use Rattle.records.specs.EntryViews.{calls_seen, event_seen, record_entry_seen};
@@ -34,23 +33,11 @@ fn children_of(alloc: Global, entries: &[Entry]) -> Result<Vec<u32>, Memory>
     Ok(made)
 }
 
-/// Whether a number is one of these.
-fn is_listed(number: u32, numbers: &[u32]) -> bool
-    ensures { result ≡ is_listed_in number numbers.now }
-{
-    for other in numbers {
-        if *other == number {
-            return true;
-        }
-    }
-    false
-}
-
 /// Whether an entry is a call or an end, and of a process that no call has made and that isn't known so far.
 fn is_of_new(made: &[u32], known: &[u32], entry: &Entry) -> bool
     ensures { result ≡ is_of_new made.now known.now (record_entry_seen entry.now) }
 {
-    entry.event.is_counted() && !is_listed(entry.process, made) && !is_listed(entry.process, known)
+    entry.event.is_counted() && !made.contains(&entry.process) && !known.contains(&entry.process)
 }
 
 /// The processes of a record that none of its calls makes, in the order in which they come. One of which each entry is left out isn't

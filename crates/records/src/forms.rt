@@ -288,7 +288,7 @@ const OTHERS: [(&[u8], Form); 35] = [
     (UNKNOWN, Form::LeftOut(Reason::Unknown)),
 ];
 
-/// The first table. (a function in which a table stands is dear to prove)
+/// The first table.
 fn calls() -> &'static [(&'static [u8], Form)] {
     &CALLS
 }
