@@ -1,1 +1,2 @@
 pub mod PlayedViews
+pub mod DeedTexts
