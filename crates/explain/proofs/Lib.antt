@@ -4,3 +4,5 @@ pub mod Covered
 mod CoveringRows
 pub mod Counted
 mod WordingRows
+pub mod Observing
+mod ObservedRows

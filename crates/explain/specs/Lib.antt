@@ -7,3 +7,5 @@ pub mod Wording
 pub mod TopicViews
 pub mod SceneViews
 pub mod RuleTexts
+pub mod Observed
+pub mod ObservedViews

@@ -1,14 +1,18 @@
 //! What is observed on a program or a task, as values in words: remarks, and warnings where FreeBSD does otherwise.
 
-ghost use Rattle.std.specs.Prelude.{◌≡◌, false};
+ghost use Rattle.std.specs.Prelude.{◌≡◌, ◌∷◌, [], OnOk, false, option_map};
+ghost use Rattle.std.specs.List.{slice_get};
+ghost use Rattle.task.specs.Views.{program_of};
 ghost use Rattle.texts.specs.PageViews.{Adds};
-ghost use Rattle.explain.specs.TopicViews.{joint, observation_text};
+ghost use Rattle.explain.specs.ObservedViews.{AddsObserved};
+ghost use Rattle.explain.specs.TopicViews.{joint, observation_text, topic_name};
 ghost use Rattle.explain.specs.Wording.{is_next, joined_points, points_text, ranges_text};
 
 use crate::folding::folded;
 use crate::scenes::Scene;
 use crate::topics::Topic;
-use std::alloc::{AllocError, Global};
+use std::alloc::AllocError;
+use task::{NamedProgram, Task};
 use texts::{Page, say};
 
 /// What is observed.
@@ -23,67 +27,30 @@ pub struct Observation {
     pub more: Page,
 }
 
-impl Observation {
-    /// One in these words, at these points, if there are such.
-    pub(crate) fn new(topic: Topic, words: Page, points: Vec<usize>) -> Observation {
-        let more = Page::new(words.alloc());
-        Observation {
-            topic,
-            words,
-            points,
-            more,
-        }
-    }
+/// Adds an observation in these words, at these points, if there are such, behind the others.
+pub(crate) fn add_observation(
+    list: &mut Vec<Observation>,
+    topic: Topic,
+    words: Page,
+    points: Vec<usize>,
+) -> Result<(), AllocError>
+    ensures { OnOk result (AddsObserved list.old.items list.new.items ((topic_name topic, points.items) ∷ [])) }
+{
+    let more = Page::new(words.alloc());
+    list.push(Observation {
+        topic,
+        words,
+        points,
+        more,
+    })?;
+    Ok(())
 }
 
-/// Observations as they are gathered. Where memory is refused for some, it goes on without them, and `finish` says so.
-#[derive(Drop)]
-pub(crate) struct Observed {
-    alloc: Global,
-    list: Vec<Observation>,
-    is_short: bool,
-}
-
-impl Observed {
-    /// None yet.
-    pub(crate) fn new(alloc: Global) -> Observed {
-        Observed {
-            alloc,
-            list: Vec::new(alloc),
-            is_short: false,
-        }
-    }
-
-    /// Where their memory comes from.
-    pub(crate) fn alloc(&self) -> Global {
-        self.alloc
-    }
-
-    /// Adds an observation behind the others.
-    pub(crate) fn add(&mut self, observation: Observation) {
-        if self.list.push(observation).is_err() {
-            self.is_short = true;
-        }
-    }
-
-    /// What was gathered to be observed; nothing, where memory was refused for that.
-    pub(crate) fn gathered<T: Drop>(&mut self, list: Result<Vec<T>, AllocError>) -> Vec<T> {
-        match list {
-            Ok(items) => items,
-            Err(AllocError) => {
-                self.is_short = true;
-                Vec::new(self.alloc)
-            }
-        }
-    }
-
-    /// The observations, if there was memory for all.
-    pub(crate) fn finish(self) -> Result<Vec<Observation>, AllocError> {
-        if self.is_short {
-            return Err(AllocError);
-        }
-        Ok(self.list)
-    }
+/// A program of a task, by its number.
+pub(crate) fn program_at(task: &Task, program: usize) -> Option<&NamedProgram>
+    ensures { option_map (λ named. program_of named.now) result ≡ slice_get task.now.programs program }
+{
+    task.programs().get(program)
 }
 
 /// Whether the first of some points is the next number behind a point.
