@@ -39,13 +39,13 @@ abbrev pub headed_remark : Remarked → Headed
 headed_remark r = (remark_name r.remark, remark_points r.remark r.points)
 
 -- a matter with its points, if there are any
-abbrev pub where_any : List ℕ → List ℕ → List Headed
-where_any name [] = []
-where_any name (point ∷ points) = (name, point ∷ points) ∷ []
+abbrev pub headed_where_any : List ℕ → List ℕ → List Headed
+headed_where_any name [] = []
+headed_where_any name (point ∷ points) = (name, point ∷ points) ∷ []
 
 -- the points in the mode at which a number has rights beyond the policy
 unfoldable pub beyond_by : List Grant → List Instruction → List (Option Bound) → DescriptorNumber → List Headed
-beyond_by grants code bounds n = where_any (codes "beyond-the-policy") (points_beyond grants code bounds n)
+beyond_by grants code bounds n = headed_where_any (codes "beyond-the-policy") (points_beyond grants code bounds n)
 
 unfoldable pub beyond_on : Plan → Certificate → Option NamedProgram → List Headed
 beyond_on plan c None = []
@@ -86,21 +86,21 @@ more_rights = codes "more-calls-and-rights"
 unfoldable pub beyond_its_calls : List ℕ
 beyond_its_calls = codes "what-a-right-does-beyond-its-calls"
 
-abbrev pub at_point : ℕ → List ℕ → Headed
-at_point point part = (part, point ∷ [])
+abbrev pub headed_at : ℕ → List ℕ → Headed
+headed_at point part = (part, point ∷ [])
 
 -- for each of some subjects
 abbrev pub each_at : {X : Type 0} → ℕ → List ℕ → List X → List Headed
-each_at point part subjects = map (λ subject. at_point point part) subjects
+each_at point part subjects = map (λ subject. headed_at point part) subjects
 
-abbrev pub if_so : Bool → ℕ → List ℕ → List Headed
-if_so is_so point part = if is_so then at_point point part ∷ [] else []
+abbrev pub headed_if : Bool → ℕ → List ℕ → List Headed
+headed_if is_so point part = if is_so then headed_at point part ∷ [] else []
 
 unfoldable pub warned_there : ℕ → Warned → List Headed
 warned_there point w =
-    map (λ d. at_point point (difference_part d)) w.differences
-    ++ (if_so w.failed_close point (codes "a-close-that-fails")
-    ++ (if_so w.no_sandbox point (codes "no-sandbox-at-all")
+    map (λ d. headed_at point (difference_part d)) w.differences
+    ++ (headed_if w.failed_close point (codes "a-close-that-fails")
+    ++ (headed_if w.no_sandbox point (codes "no-sandbox-at-all")
     ++ (each_at point more_rights w.numbers ++ each_at point beyond_its_calls w.directories)))
 
 -- what is warned of at some points, from this one on

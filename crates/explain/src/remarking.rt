@@ -3,7 +3,7 @@
 ghost use Rattle.std.specs.Prelude.{◌≡◌, [], if◌then◌else◌, IfOk, OnOk, Some, codes, map};
 ghost use Rattle.std.specs.List.{flat_map, slice_get};
 ghost use Rattle.explain.specs.Observed.{beyond_by, beyond_on, headed_remark, headed_task_remark, program_observed, remark_name, remark_points};
-ghost use Rattle.explain.specs.Observed.{task_observed, task_remark_name, unused_on, where_any};
+ghost use Rattle.explain.specs.Observed.{task_observed, task_remark_name, unused_on, headed_where_any};
 ghost use Rattle.explain.specs.ObservedViews.{AddsObserved, headed};
 ghost use Rattle.explain.specs.TopicViews.{topic_name};
 ghost use Rattle.instruction_set.specs.Views.{code_of};
@@ -149,7 +149,7 @@ fn add_rights(
     rights: Rights,
     points: Vec<usize>,
 ) -> Result<(), AllocError>
-    ensures { OnOk result (AddsObserved list.old.items list.new.items (where_any (codes "beyond-the-policy") points.items)) }
+    ensures { OnOk result (AddsObserved list.old.items list.new.items (headed_where_any (codes "beyond-the-policy") points.items)) }
 {
     if points.is_empty() {
         return Ok(());

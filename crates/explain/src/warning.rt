@@ -3,7 +3,7 @@
 ghost use Rattle.std.specs.Prelude.{◌≡◌, ◌∷◌, [], IfOk, OnOk, Some, map};
 ghost use Rattle.std.specs.List.{flat_map, slice_get};
 ghost use Rattle.certificate.specs.Views.{ceiling_of};
-ghost use Rattle.explain.specs.Observed.{at_point, difference_part, each_at, if_so, program_warned};
+ghost use Rattle.explain.specs.Observed.{headed_at, difference_part, each_at, headed_if, program_warned};
 ghost use Rattle.explain.specs.Observed.{warned_at_start, warned_from, warned_if_marked, warned_of_whole, warned_there};
 ghost use Rattle.explain.specs.ObservedViews.{AddsObserved, headed, part_of};
 ghost use Rattle.remarks.specs.RemarkViews.{difference_of, warned_of};
@@ -113,7 +113,7 @@ fn add(
     subject: Subject,
     matter: Matter,
 ) -> Result<(), AllocError>
-    ensures { OnOk result (AddsObserved list.old.items list.new.items (at_point point (part_of matter) ∷ [])) }
+    ensures { OnOk result (AddsObserved list.old.items list.new.items (headed_at point (part_of matter) ∷ [])) }
 {
     let words = words_of(alloc, subject, matter);
     let points = vec![in alloc; point]?;
@@ -128,7 +128,7 @@ fn add_if(
     is_so: bool,
     matter: Matter,
 ) -> Result<(), AllocError>
-    ensures { OnOk result (AddsObserved list.old.items list.new.items (if_so is_so point (part_of matter))) }
+    ensures { OnOk result (AddsObserved list.old.items list.new.items (headed_if is_so point (part_of matter))) }
 {
     if !is_so {
         return Ok(());
@@ -144,7 +144,7 @@ fn add_differences(
     differences: &[Difference],
 ) -> Result<(), AllocError>
     ensures { OnOk result (AddsObserved list.old.items list.new.items
-        (map (λ d. at_point point (difference_part d)) (map difference_of differences.now))) }
+        (map (λ d. headed_at point (difference_part d)) (map difference_of differences.now))) }
 {
     match differences {
         [] => Ok(()),

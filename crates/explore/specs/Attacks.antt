@@ -19,12 +19,12 @@ act_by (Some i) = Does (deed_by i)
 
 -- ## The deeds that are tried (own)
 -- the operand of the descriptor by which an instruction goes, if it is a call that goes by one
-abbrev pub descriptor_in : Instruction → Option Operand
-descriptor_in (Invoke call otherwise) = first_operand call
-descriptor_in _ = None
+abbrev pub descriptor_by : Instruction → Option Operand
+descriptor_by (Invoke call otherwise) = first_operand call
+descriptor_by _ = None
 
 abbrev pub GoesBy : DescriptorNumber → Instruction → Type 0
-GoesBy n i = descriptor_in i ≡ Some (Number n)
+GoesBy n i = descriptor_by i ≡ Some (Number n)
 
 abbrev pub GoBy : DescriptorNumber → List Instruction → Type 0
 GoBy n [] = Unit {0}

@@ -10,7 +10,7 @@ use Rattle.task.specs.Plans.{Plan, unmarked}
 use Rattle.explore.specs.Attacks.{AreTried, GoesBy, deed_by}
 use Rattle.explore.specs.Breaches.{Outside, Missing_right, Capability_mode}
 use Rattle.explore.specs.Broken.{Breaks, Move}
-use Rattle.explore.specs.Takeovers.{Begins, Entry, Enters_at, Inherits, Takeover, TakesOver}
+use Rattle.explore.specs.Takeovers.{Begins, WayIn, Enters_at, Inherits, Takeover, TakesOver}
 
 -- an event of a process
 abbrev pub event_of_process : ℕ → Event
@@ -42,26 +42,26 @@ abbrev pub first_calls : Syscall → Move
 first_calls call = (event_of_process 0, Does (deed_by (Invoke call 0)))
 
 -- its one process, of an untrusted program, enters the mode and makes a child
-abbrev pub entering_plan : Plan
-entering_plan = record {
+abbrev pub forking_inside_plan : Plan
+forking_inside_plan = record {
   nodes = small_tree;
   grants = [];
   programs = record (unmarked (codes "main") (Invoke Cap_enter 2 ∷ Invoke Fork 2 ∷ Halt ∷ [])) { marked = true } ∷ [];
   starts = record { program = 0; mode = false; descriptors = [] } ∷ [];
 }
 
-abbrev pub taken : ℕ → ℕ → Entry → Takeover
-taken process program entry = record { process = process; program = program; entry = entry }
+abbrev pub takeover_by : ℕ → ℕ → WayIn → Takeover
+takeover_by process program entry = record { process = process; program = program; entry = entry }
 
 pub record SomeAreTakenOver : Type 0 where
-  pub at_start : TakesOver making_plan (child_calls (Mkdirat (Number 1) (codes "x")) ∷ []) (taken 1 1 Begins ∷ [])
-  pub by_call : TakesOver entering_plan (first_moves ∷ first_calls (Close (Number 0)) ∷ []) (taken 0 0 (Enters_at 0) ∷ [])
+  pub at_start : TakesOver making_plan (child_calls (Mkdirat (Number 1) (codes "x")) ∷ []) (takeover_by 1 1 Begins ∷ [])
+  pub by_call : TakesOver forking_inside_plan (first_moves ∷ first_calls (Close (Number 0)) ∷ []) (takeover_by 0 0 (Enters_at 0) ∷ [])
   -- a child, before the parent by whose call it is in the mode
   pub by_parent :
-      TakesOver entering_plan (first_moves ∷ first_moves ∷ child_calls (Close (Number 0)) ∷ first_calls (Close (Number 0)) ∷ [])
-      (taken 1 0 Inherits ∷ taken 0 0 (Enters_at 0) ∷ [])
+      TakesOver forking_inside_plan (first_moves ∷ first_moves ∷ child_calls (Close (Number 0)) ∷ first_calls (Close (Number 0)) ∷ [])
+      (takeover_by 1 0 Inherits ∷ takeover_by 0 0 (Enters_at 0) ∷ [])
   -- outside the mode no deed is done, nor by a trusted process, nor where none is to be done
-  pub too_early : TakesOver entering_plan (first_calls (Close (Number 0)) ∷ []) []
+  pub too_early : TakesOver forking_inside_plan (first_calls (Close (Number 0)) ∷ []) []
   pub trusted : TakesOver making_plan (first_calls (Close (Number 0)) ∷ []) []
   pub as_written : TakesOver making_plan ((event_of_process 1, Own) ∷ []) []
 

@@ -12,16 +12,16 @@ use Rattle.task.specs.Plans.{Plan, programs_of_plan}
 use Rattle.task.specs.Begins.{first_world}
 use Rattle.explore.specs.Broken.{Move, is_own}
 
-pub data Entry : Type 0 where
-  Begins : Entry  -- it is a first process, and starts in the mode
-  Enters_at : (point : ℕ) → Entry  -- by the `cap_enter` at this point of its program
-  Inherits : Entry  -- by its parent's, before it was made
+pub data WayIn : Type 0 where
+  Begins : WayIn  -- it is a first process, and starts in the mode
+  Enters_at : (point : ℕ) → WayIn  -- by the `cap_enter` at this point of its program
+  Inherits : WayIn  -- by its parent's, before it was made
 
 -- a process that does a deed, with its program
 pub record Takeover : Type 0 where
   pub process : ProcessNumber
   pub program : ℕ
-  pub entry : Entry
+  pub entry : WayIn
 
 -- a process that enters the mode by the `cap_enter` at this point of its program
 pub record Entrance : Type 0 where
@@ -29,15 +29,15 @@ pub record Entrance : Type 0 where
   pub point : ℕ
 
 -- what was seen of a run so far, in the order in which it came
-pub record Seen : Type 0 where
+pub record Noticed : Type 0 where
   pub entrances : List Entrance
   pub taken : List Takeover
 
-abbrev pub nothing_seen : Seen
+abbrev pub nothing_seen : Noticed
 nothing_seen = record { entrances = []; taken = [] }
 
 -- how a process that is in the mode came into it, of a task with so many first processes
-abbrev pub entry_in : List Entrance → ℕ → ProcessNumber → Entry
+abbrev pub entry_in : List Entrance → ℕ → ProcessNumber → WayIn
 entry_in [] first p = if nat_lt p first then Begins else Inherits
 entry_in (e ∷ entrances) first p = if nat_eq e.process p then Enters_at e.point else entry_in entrances first p
 
@@ -49,38 +49,38 @@ is_cap_enter (Some (Invoke Cap_enter otherwise)) = true
 is_cap_enter _ = false
 
 -- it lives outside the mode, and this is its instruction
-abbrev pub enters : ProcessState → Option Instruction → Bool
-enters s here = s.alive && not s.mode && is_cap_enter here
+abbrev pub enters_here : ProcessState → Option Instruction → Bool
+enters_here s here = s.alive && not s.mode && is_cap_enter here
 
 -- it is to do a deed, and may do anything
 abbrev pub does_deed : ProcessState → Act → Bool
 does_deed s act = not (is_own act) && is_hostile s
 
 -- it does so for the first time
-abbrev pub is_taken_now : ProcessNumber → ProcessState → Act → Seen → Bool
+abbrev pub is_taken_now : ProcessNumber → ProcessState → Act → Noticed → Bool
 is_taken_now p s act seen = does_deed s act && not (is_taken seen.taken p)
 
-abbrev pub with_entrance : ProcessNumber → ProcessState → Seen → Seen
+abbrev pub with_entrance : ProcessNumber → ProcessState → Noticed → Noticed
 with_entrance p s seen = record seen { entrances = seen.entrances ++ record { process = p; point = s.point } ∷ [] }
 
-abbrev pub with_takeover : ℕ → ProcessNumber → ProcessState → Seen → Seen
+abbrev pub with_takeover : ℕ → ProcessNumber → ProcessState → Noticed → Noticed
 with_takeover first p s seen =
     record seen { taken = seen.taken ++ record { process = p; program = s.program; entry = entry_in seen.entrances first p } ∷ [] }
 
 -- What is seen when a process in this state steps, at this instruction of its program: each process is taken over once.
-abbrev pub noted : ℕ → ProcessNumber → ProcessState → Option Instruction → Act → Seen → Seen
+abbrev pub noted : ℕ → ProcessNumber → ProcessState → Option Instruction → Act → Noticed → Noticed
 noted first p s here act seen =
-    if enters s here then with_entrance p s seen
+    if enters_here s here then with_entrance p s seen
     else if is_taken_now p s act seen then with_takeover first p s seen
     else seen
 
 -- so of a process that may not have been made
-abbrev pub noted_of : Programs → ℕ → ProcessNumber → Option ProcessState → Act → Seen → Seen
+abbrev pub noted_of : Programs → ℕ → ProcessNumber → Option ProcessState → Act → Noticed → Noticed
 noted_of programs first p None act seen = seen
 noted_of programs first p (Some s) act seen = noted first p s (slice_get (programs s.program) s.point) act seen
 
 -- In every run of these moves from this world, whatever fresh numbers are chosen, just these processes are taken over, with those of before.
-abbrev pub EndsTaking : Programs → ℕ → World → Seen → List Move → List Takeover → Type 0
+abbrev pub EndsTaking : Programs → ℕ → World → Noticed → List Move → List Takeover → Type 0
 EndsTaking programs first w seen [] taken = taken ≡ seen.taken
 EndsTaking programs first w seen ((e, act) ∷ moves) taken =
     (choice : Choice)

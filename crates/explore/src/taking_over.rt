@@ -7,8 +7,8 @@ ghost use Rattle.process.specs.State.{ProcessState};
 ghost use Rattle.task.specs.Plans.{code_in, programs_of_plan};
 ghost use Rattle.task.specs.Views.{programs_of};
 ghost use Rattle.explore.specs.MoveViews.{act_of, move_of};
-ghost use Rattle.explore.specs.Takeovers.{TakesOver, entry_in, enters, is_cap_enter, is_taken, is_taken_now, noted, noted_of, with_entrance, with_takeover};
-ghost use Rattle.explore.specs.TakeoverViews.{entrances_of, entry_of, seen_of, takeovers_of};
+ghost use Rattle.explore.specs.Takeovers.{TakesOver, entry_in, enters_here, is_cap_enter, is_taken, is_taken_now, noted, noted_of, with_entrance, with_takeover};
+ghost use Rattle.explore.specs.TakeoverViews.{entrances_of, way_in_of, noticed_of, takeovers_of};
 
 use crate::attacks::Move;
 use crate::breaking::step_by;
@@ -55,7 +55,7 @@ struct Seen {
 
 /// How a process that is in the mode came into it, of a task with so many first processes.
 fn entry_in(entrances: &[Entrance], first: usize, process: u8) -> Entry
-    ensures { entry_of result ≡ entry_in (entrances_of entrances.now) first process }
+    ensures { way_in_of result ≡ entry_in (entrances_of entrances.now) first process }
 {
     match entrances {
         [] => {
@@ -109,7 +109,7 @@ fn is_cap_enter(here: Option<&Instruction>) -> bool
 
 /// Whether a process lives outside the mode, and this instruction of it enters it.
 fn enters(state: &Process, here: Option<&Instruction>) -> bool
-    ensures { result ≡ enters state.now (option_map (λ i. instruction_of i.now) here.entry) }
+    ensures { result ≡ enters_here state.now (option_map (λ i. instruction_of i.now) here.entry) }
 {
     state.alive && !state.mode() && is_cap_enter(here)
 }
@@ -117,14 +117,14 @@ fn enters(state: &Process, here: Option<&Instruction>) -> bool
 impl Seen {
     /// Whether a process in this state does its first deed by this move.
     fn is_taken_now(&self, next: &Move<'_>, state: &Process) -> bool
-        ensures { result ≡ is_taken_now next.now.event.process state.now (act_of next.now) (seen_of self.now) }
+        ensures { result ≡ is_taken_now next.now.event.process state.now (act_of next.now) (noticed_of self.now) }
     {
         next.deed.is_some() && state.is_hostile() && !is_taken(&self.taken, next.event.process)
     }
 
     /// Adds that a process in this state enters the mode.
     fn add_entrance(&mut self, process: u8, state: &Process) -> Result<(), Memory>
-        ensures { OnOk result (seen_of self.new ≡ with_entrance process state.now (seen_of self.old)) }
+        ensures { OnOk result (noticed_of self.new ≡ with_entrance process state.now (noticed_of self.old)) }
     {
         let point = state.point;
         self.entrances.push(Entrance { process, point })?;
@@ -133,7 +133,7 @@ impl Seen {
 
     /// Adds that a process in this state is taken over, of a task with so many first processes.
     fn add_takeover(&mut self, first: usize, process: u8, state: &Process) -> Result<(), Memory>
-        ensures { OnOk result (seen_of self.new ≡ with_takeover first process state.now (seen_of self.old)) }
+        ensures { OnOk result (noticed_of self.new ≡ with_takeover first process state.now (noticed_of self.old)) }
     {
         let entry = entry_in(&self.entrances, first, process);
         let program = state.program;
@@ -153,8 +153,8 @@ impl Seen {
         state: &Process,
         here: Option<&Instruction>,
     ) -> Result<(), Memory>
-        ensures { OnOk result (seen_of self.new ≡ noted first next.now.event.process state.now (option_map (λ i. instruction_of i.now) here.entry)
-            (act_of next.now) (seen_of self.old)) }
+        ensures { OnOk result (noticed_of self.new ≡ noted first next.now.event.process state.now (option_map (λ i. instruction_of i.now) here.entry)
+            (act_of next.now) (noticed_of self.old)) }
     {
         if enters(state, here) {
             return self.add_entrance(next.event.process, state);
@@ -173,8 +173,8 @@ fn note_move(
     processes: &[Process],
     next: &Move<'_>,
 ) -> Result<(), Memory>
-    ensures { OnOk result (seen_of seen.new ≡ noted_of (programs_of_plan task.now) (length task.now.starts) next.now.event.process
-        (slice_get processes.now next.now.event.process) (act_of next.now) (seen_of seen.old)) }
+    ensures { OnOk result (noticed_of seen.new ≡ noted_of (programs_of_plan task.now) (length task.now.starts) next.now.event.process
+        (slice_get processes.now next.now.event.process) (act_of next.now) (noticed_of seen.old)) }
 {
     match processes.get(next.event.process as usize) {
         None => Ok(()),

@@ -6,7 +6,7 @@ use Rattle.instruction_set.specs.Assembly.{Line, Mistake, Operand, line_of_code,
 use Rattle.instruction_set.specs.Forms.{Leading, After_error, syscall_at, written_at, operand_at, path_at, flags_at, rights_at, directory_at, label_at, else_at}
 use Rattle.instruction_set.specs.Programs.{Syscall, Number, Register, Openat, Sendfd, Unlinkat, Renameat, Cap_rights_limit, Dup}
 use Rattle.rights.specs.Opens.{open_request}
-use Rattle.review.specs.DeedTexts.{call_text, flag_set, right_words, rights_text}
+use Rattle.review.specs.DeedTexts.{call_text, opening_set, right_words, right_set_text}
 
 -- the line of a call, with where an error leads behind it
 abbrev line_of : Syscall → Result Line Mistake
@@ -16,15 +16,15 @@ abbrev IsReadBack : Syscall → Type 0
 IsReadBack call = line_of call ≡ Ok (line_with None (Some (Leading (After_error call) (codes "out"))))
 
 opened : call_text (Openat (Number 3) (codes "etc/x") (open_request true true false true false)) ≡ codes "openat 3 \"etc/x\" read,write,create"
-unfolding digits flag_set
+unfolding digits opening_set
 opened = refl
 
 limited : call_text (Cap_rights_limit (Number 12) 2) ≡ codes "cap_rights_limit 12 WRITE"
-unfolding digits right_words rights_text
+unfolding digits right_words right_set_text
 limited = refl
 
 opened_back : IsReadBack (Openat (Number 3) (codes "etc/x") (open_request true true false true false))
-unfolding digits flag_set syscall_at written_at operand_at path_at flags_at else_at label_at
+unfolding digits opening_set syscall_at written_at operand_at path_at flags_at else_at label_at
 opened_back = refl
 
 sent_back : IsReadBack (Sendfd (Number 3) (Register 7) (Number 0))
@@ -40,11 +40,11 @@ unfolding digits syscall_at written_at operand_at path_at else_at label_at
 moved_back = refl
 
 limited_back : IsReadBack (Cap_rights_limit (Number 12) 3)
-unfolding digits right_words rights_text syscall_at written_at operand_at rights_at else_at label_at
+unfolding digits right_words right_set_text syscall_at written_at operand_at rights_at else_at label_at
 limited_back = refl
 
 dropped_back : IsReadBack (Cap_rights_limit (Number 12) 0)
-unfolding digits right_words rights_text syscall_at written_at operand_at rights_at else_at label_at
+unfolding digits right_words right_set_text syscall_at written_at operand_at rights_at else_at label_at
 dropped_back = refl
 
 -- of a call that isn't tried the operands aren't written

@@ -16,29 +16,29 @@ abbrev pub path_text : PathText → List ℕ
 path_text path = codes " \"" ++ (path ++ codes "\"")
 
 -- the names of the members of a set, lowest bit first: the first of them behind a separator, the others behind commas
-abbrev pub names_text : List ℕ → ℕ → List (List ℕ) → List ℕ
-names_text separator set [] = []
-names_text separator set (name ∷ names) =
-    if set % 2 == 1 then separator ++ (name ++ names_text (codes ",") (set / 2) names) else names_text separator (set / 2) names
+abbrev pub members_text : List ℕ → ℕ → List (List ℕ) → List ℕ
+members_text separator set [] = []
+members_text separator set (name ∷ names) =
+    if set % 2 == 1 then separator ++ (name ++ members_text (codes ",") (set / 2) names) else members_text separator (set / 2) names
 
 abbrev pub flag_words : List (List ℕ)
 flag_words = codes "read" ∷ codes "write" ∷ codes "append" ∷ codes "create" ∷ codes "trunc" ∷ []
 
-abbrev pub bit_if : Bool → ℕ → ℕ
-bit_if is bit = if is then bit else 0
+abbrev pub bit_where : Bool → ℕ → ℕ
+bit_where is bit = if is then bit else 0
 
-unfoldable pub flag_set : OpenRequest → ℕ
-flag_set request = bit_if request.read 1 + bit_if request.write 2 + bit_if request.append 4 + bit_if request.create 8 + bit_if request.trunc 16
+unfoldable pub opening_set : OpenRequest → ℕ
+opening_set request = bit_where request.read 1 + bit_where request.write 2 + bit_where request.append 4 + bit_where request.create 8 + bit_where request.trunc 16
 
 abbrev pub flags_text : OpenRequest → List ℕ
-flags_text request = names_text (codes " ") (flag_set request) flag_words
+flags_text request = members_text (codes " ") (opening_set request) flag_words
 
 -- the fourteen rights, without their other names
 unfoldable pub right_words : List (List ℕ)
 right_words = map (λ (named : List ℕ × ℕ). named.0) (take 14 right_names)
 
-unfoldable pub rights_text : RightSet → List ℕ
-rights_text set = if set == 0 then codes " none" else names_text (codes " ") set right_words
+unfoldable pub right_set_text : RightSet → List ℕ
+right_set_text set = if set == 0 then codes " none" else members_text (codes " ") set right_words
 
 -- the operands of a call that makes, looks at, opens or removes a name
 abbrev pub named_text : Syscall → List ℕ
@@ -58,7 +58,7 @@ operands_text (programs.Sendfd descriptor sent value) = operand_text descriptor 
 operands_text (programs.Read descriptor) = operand_text descriptor
 operands_text (programs.Recvfd descriptor) = operand_text descriptor
 operands_text (programs.Fstat descriptor) = operand_text descriptor
-operands_text (programs.Cap_rights_limit descriptor rights) = operand_text descriptor ++ rights_text rights
+operands_text (programs.Cap_rights_limit descriptor rights) = operand_text descriptor ++ right_set_text rights
 operands_text call = named_text call
 
 abbrev pub call_text : Syscall → List ℕ

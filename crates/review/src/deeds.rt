@@ -3,8 +3,8 @@
 ghost use Rattle.std.specs.Prelude.{◌≡◌, map};
 ghost use Rattle.instruction_set.specs.Views.{instruction_of, operand_of, syscall_of};
 ghost use Rattle.texts.specs.PageViews.{Adds};
-ghost use Rattle.review.specs.DeedTexts.{call_text, deed_text, flag_set, flag_words, flags_text, named_text, names_text, operand_text, operands_text, path_text};
-ghost use Rattle.review.specs.DeedTexts.{right_words, rights_text};
+ghost use Rattle.review.specs.DeedTexts.{call_text, deed_text, opening_set, flag_words, flags_text, named_text, members_text, operand_text, operands_text, path_text};
+ghost use Rattle.review.specs.DeedTexts.{right_words, right_set_text};
 
 use bitflags::Flags;
 use explore::Deed;
@@ -64,7 +64,7 @@ fn add_path(page: &mut Page, path: &Path)
 
 /// Adds the names of the members of a set, lowest bit first: the first of them behind a separator, the others behind commas.
 fn add_names(page: &mut Page, separator: &'static str, set: u16, names: &[&'static str])
-    ensures { Adds page.old page.new (names_text separator.now set (map (λ word. word.now) names.now)) }
+    ensures { Adds page.old page.new (members_text separator.now set (map (λ word. word.now) names.now)) }
 {
     match names {
         [] => {}
@@ -79,9 +79,9 @@ fn add_names(page: &mut Page, separator: &'static str, set: u16, names: &[&'stat
 }
 
 /// The set of the flags of an open.
-#[tactic(auto, unfolding(crate::specs::DeedTexts::flag_set))]
+#[tactic(auto, unfolding(crate::specs::DeedTexts::opening_set))]
 fn flag_set(flags: OpenFlags) -> u16
-    ensures { result ≡ flag_set flags }
+    ensures { result ≡ opening_set flags }
 {
     u16::from(flags.read())
         + 2 * u16::from(flags.write())
@@ -98,9 +98,9 @@ fn add_flags(page: &mut Page, flags: OpenFlags)
 }
 
 /// Adds the rights of a set.
-#[tactic(auto, unfolding(crate::specs::DeedTexts::rights_text))]
+#[tactic(auto, unfolding(crate::specs::DeedTexts::right_set_text))]
 fn add_set(page: &mut Page, set: u16)
-    ensures { Adds page.old page.new (rights_text set) }
+    ensures { Adds page.old page.new (right_set_text set) }
 {
     if set == 0 {
         " none".say(page)
@@ -111,7 +111,7 @@ fn add_set(page: &mut Page, set: u16)
 
 /// Adds the rights that a limit leaves.
 fn add_rights(page: &mut Page, rights: Rights)
-    ensures { Adds page.old page.new (rights_text rights.0) }
+    ensures { Adds page.old page.new (right_set_text rights.0) }
 {
     add_set(page, rights.bits())
 }

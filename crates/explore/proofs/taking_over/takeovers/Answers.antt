@@ -17,8 +17,8 @@ use Rattle.explore.specs.declared.taking_over.Entrance.{Entrance as EntranceCode
 use Rattle.explore.specs.declared.taking_over.Takeover.{Takeover as TakeoverCode}
 use Rattle.explore.specs.Broken.{Move}
 use Rattle.explore.specs.MoveViews.{act_of, deed_in, event_at, move_of}
-use Rattle.explore.specs.Takeovers.{Seen, noted_of}
-use Rattle.explore.specs.TakeoverViews.{entrances_of, seen_of, takeovers_of}
+use Rattle.explore.specs.Takeovers.{Noticed, noted_of}
+use Rattle.explore.specs.TakeoverViews.{entrances_of, noticed_of, takeovers_of}
 use Rattle.explore.proofs.MayDo.{may-do}
 use Rattle.explore.proofs.Taking.{LeadsTaking, taking-start, taking-step, taking-end}
 use Rattle.explore.proofs.taking_over.takeovers.Goals as goal
@@ -52,7 +52,7 @@ loop-next-preserved c =
     let w = machine_world c.loop-next.machine in
     let next = machine_world c.step_by.new.machine in
     let line : Line = line_of c.in-Ok-step_by._line in
-    let seen : Seen = seen_of c.loop-next.seen in
+    let seen : Noticed = noticed_of c.loop-next.seen in
     let so_far = subst (λ (x : MoveCode). LeadsTaking plan moves w seen (move_of x ∷ left)) (sym c.next-item.is)
     (subst (LeadsTaking plan moves w seen) (map-drop move_of c.args.moves.now c.loop-next.next-index m c.loop-next-test.true) inv.leads)
     in
@@ -61,7 +61,7 @@ loop-next-preserved c =
     let may : (v : World) → IsWellFormed (programs_of_plan plan) v → IsAct (programs_of_plan plan) v e.process act =
     λ v fine. may-do (programs_of_plan plan) v e.process (deed_in m) c.in-Ok-step_by.ensures.paths fine
     in
-    let noted : seen_of c.note_move.new.seen ≡ noted_of (programs_of_plan plan) (length plan.starts) e.process (slice_get w.processes e.process) act seen =
+    let noted : noticed_of c.note_move.new.seen ≡ noted_of (programs_of_plan plan) (length plan.starts) e.process (slice_get w.processes e.process) act seen =
     c.in_ok-note_move.ensures
     ∙ ap (λ (ps : List ProcessState). noted_of (programs_of_plan plan) (length plan.starts) e.process (slice_get ps e.process) act seen) c.processes.ensures
     in
@@ -70,7 +70,7 @@ loop-next-preserved c =
       valid = inv.valid;
       well_formed = subst (λ (p : Plan). IsWellFormed (programs_of_plan p) next) same c.in-Ok-step_by.ensures.well_formed;
       leads =
-          taking-step plan moves w next seen (seen_of c.note_move.new.seen) e act left line inv.valid inv.well_formed c.in-Ok-step_by.ensures.byte may s
+          taking-step plan moves w next seen (noticed_of c.note_move.new.seen) e act left line inv.valid inv.well_formed c.in-Ok-step_by.ensures.byte may s
           noted so_far;
     }
 
@@ -78,6 +78,6 @@ pub returns : goal.returns
 returns c =
     let plan : Plan = c.args.task.now in
     let all : drop c.loop-next.next-index c.args.moves.now ≡ [] = drop-end c.args.moves.now c.loop-next.next-index c.loop-next-test.false in
-    taking-end plan (map move_of c.args.moves.now) (machine_world c.loop-next.machine) (seen_of c.loop-next.seen)
-    (subst (λ moves. LeadsTaking plan (map move_of c.args.moves.now) (machine_world c.loop-next.machine) (seen_of c.loop-next.seen) (map move_of moves))
+    taking-end plan (map move_of c.args.moves.now) (machine_world c.loop-next.machine) (noticed_of c.loop-next.seen)
+    (subst (λ moves. LeadsTaking plan (map move_of c.args.moves.now) (machine_world c.loop-next.machine) (noticed_of c.loop-next.seen) (map move_of moves))
     all c.loop-next.invariant.leads)

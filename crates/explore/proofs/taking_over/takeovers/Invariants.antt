@@ -4,7 +4,7 @@ use Rattle.task.specs.Limits.{is_plan}
 use Rattle.task.specs.Plans.{programs_of_plan}
 use Rattle.simulator.specs.Machines.{machine_world}
 use Rattle.explore.specs.MoveViews.{move_of}
-use Rattle.explore.specs.TakeoverViews.{seen_of}
+use Rattle.explore.specs.TakeoverViews.{noticed_of}
 use Rattle.explore.proofs.Taking.{LeadsTaking}
 use Rattle.explore.proofs.taking_over.takeovers.Given as goal
 
@@ -14,5 +14,5 @@ invariant-loop-next l = record {
   plan : l.machine.plan ≡ l.task;
   valid : is_plan l.task ≡ true;
   well_formed : IsWellFormed (programs_of_plan l.task) (machine_world l.machine);
-  leads : LeadsTaking l.task (map move_of l.moves) (machine_world l.machine) (seen_of l.seen) (map move_of (drop l.next-index l.moves));
+  leads : LeadsTaking l.task (map move_of l.moves) (machine_world l.machine) (noticed_of l.seen) (map move_of (drop l.next-index l.moves));
 }
