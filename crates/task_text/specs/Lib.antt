@@ -5,3 +5,4 @@ pub mod ProgramViews
 pub mod FaultLines
 pub mod FaultViews
 pub mod NearWords
+pub mod SourceViews

@@ -1,10 +1,14 @@
 //! The lines of a program's text, as they stand in the task's file.
 
-use crate::places::{Cursor, part};
+ghost use Rattle.std.specs.Prelude.{◌≡◌, IfOk, map};
+ghost use Rattle.texts.specs.Lines.{lines_of};
+ghost use Rattle.task_text.specs.SourceViews.{line_shown, texts_in};
+
+use crate::places::Cursor;
 use crate::program_texts::ProgramText;
 use prog_asm::Span;
 use std::alloc::{AllocError, Global};
-use texts::Lines;
+use texts::{Line, Lines};
 
 /// A line of a program's text.
 #[derive(Clone, Copy)]
@@ -20,36 +24,62 @@ pub struct SourceLine<'a> {
     pub behind: &'a [u8],
 }
 
+/// A line of this number, in which the instruction of a point stands between these offsets of the line.
+fn parted(number: u32, text: &[u8], within: Span, point: Option<usize>) -> SourceLine<'_>
+    ensures { line_shown result ≡ text.entry.now }
+{
+    let start = within.start.min(text.len());
+    let (before, rest) = text.split_at(start);
+    let length = within.end.saturating_sub(start).min(rest.len());
+    let (instruction, behind) = rest.split_at(length);
+    SourceLine {
+        number,
+        before,
+        point,
+        instruction,
+        behind,
+    }
+}
+
 impl ProgramText {
-    /// The lines of the program's text. Where it isn't the text of its instructions, no line has a point.
+    /// Where in a line the instruction of a point stands, if it begins in it.
+    fn span_in(&self, line: &Line<'_>, point: usize) -> Option<Span> {
+        let span = self.instructions().get(point)?;
+        let start = span.start.saturating_sub(line.offset);
+        let end = span.end.saturating_sub(line.offset);
+        if start < line.text.len() {
+            Some(Span { start, end })
+        } else {
+            None
+        }
+    }
+
+    /// The lines of the program's text, in their order: the parts of each are the whole line. Where it isn't the text of its instructions, no line
+    /// has a point. (own)
     pub fn source_lines(
         &self,
         alloc: Global,
         file: &[u8],
-    ) -> Result<Vec<SourceLine<'_>>, AllocError> {
-        let bytes = self.bytes();
+    ) -> Result<Vec<SourceLine<'_>>, AllocError>
+        ensures { IfOk result (λ list. map line_shown list.items ≡ texts_in (lines_of self.now.code.bytes.items)) }
+    {
         let mut list = Vec::new(alloc);
         let mut cursor = Cursor::FIRST;
-        let mut points = 0;
-        for line in Lines::new(bytes) {
+        let mut points: usize = 0;
+        for line in Lines::new(self.bytes()) {
             let number = cursor.go_to(file, self.offset(line.offset)).line;
-            let end = line.offset.saturating_add(line.text.len());
-            let mut at = Span { start: end, end };
-            let mut point = None;
-            if let Some(span) = self.instructions().get(points) {
-                if span.start < end {
-                    at = *span;
-                    point = Some(points);
-                    points += 1;
+            let source = match self.span_in(&line, points) {
+                Some(within) => {
+                    let point = Some(points);
+                    points = points.saturating_add(1);
+                    parted(number, line.text, within, point)
                 }
-            }
-            list.push(SourceLine {
-                number,
-                before: part(bytes, line.offset, at.start),
-                point,
-                instruction: part(bytes, at.start, at.end),
-                behind: part(bytes, at.end, end),
-            })?;
+                None => {
+                    let end = line.text.len();
+                    parted(number, line.text, Span { start: end, end }, None)
+                }
+            };
+            list.push(source)?;
         }
         Ok(list)
     }
