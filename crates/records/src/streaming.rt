@@ -6,6 +6,7 @@ use crate::forms::Streaming;
 use crate::real_calls::Given;
 use crate::runs::Run;
 use crate::seen_calls::{SeenCall, Through};
+use crate::strace_texts::number;
 use rights::{Call, Errno};
 use texts::{first_part, read_hex};
 
@@ -22,7 +23,7 @@ fn add_write(run: &mut Run, through: &Through<'_>) -> Option<Reason> {
     None
 }
 
-/// A seek before a read or a write at an offset: whether the call gets past it.
+/// A seek before a read or a write at an offset, which it answers: whether the call gets past it.
 fn add_seek(run: &mut Run, through: &Through<'_>) -> bool {
     run.known.take_for_file(through.mention);
     let outcome = through.seen.outcome;
@@ -30,8 +31,15 @@ fn add_seek(run: &mut Run, through: &Through<'_>) -> bool {
         run.add_with(through, Call::Lseek, 0, outcome);
         return false;
     }
-    run.add_with(through, Call::Lseek, 0, Some(Outcome::Success(0)));
+    let offset = number(through.seen.argument(3)).unwrap_or(0);
+    run.add_with(through, Call::Lseek, 0, Some(Outcome::Success(offset)));
     true
+}
+
+/// Whether a call came to nothing since it was asked not to wait, though its descriptor may wait.
+fn gives_up(seen: &SeenCall<'_>) -> bool {
+    matches!(seen.outcome, Some(Outcome::Failure(Errno::EAGAIN)))
+        && (seen.has(2, b"MSG_DONTWAIT") || seen.has(3, b"MSG_DONTWAIT"))
 }
 
 /// Bytes that go from one descriptor to another: a read, and a write where there were any.
@@ -148,7 +156,7 @@ pub(crate) fn take(run: &mut Run, seen: &SeenCall<'_>, streaming: Streaming) -> 
         _ => {}
     }
     match seen.mention(0) {
-        Some(mention) if seen.outcome.is_some() => {
+        Some(mention) if seen.outcome.is_some() && !gives_up(seen) => {
             take_through(run, &Through { seen, mention }, streaming)
         }
         _ => Some(Reason::Unknown),
