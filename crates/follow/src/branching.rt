@@ -243,6 +243,15 @@ fn add_turn<'a>(lead: &Lead<'a>, turn: Turn, found: &mut Leads<'a>) {
     }
 }
 
+/// Adds the runs in which some process of the record goes on without showing a call, also one whose next call can't come yet: another one may
+/// wait for what it gives before.
+pub(crate) fn add_unshown<'a>(lead: &Lead<'a>, found: &mut Leads<'a>) {
+    for pair in &lead.pairs {
+        add_inputs(lead, pair.model, found);
+        add_repeated(lead, pair.model, found);
+    }
+}
+
 /// Adds the runs that may come next, those that show a call first.
 pub(crate) fn add_branches<'a>(lead: &Lead<'a>, found: &mut Leads<'a>) {
     add_turn(lead, Turn::Shown, found);

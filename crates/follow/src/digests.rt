@@ -2,7 +2,7 @@
 
 use crate::leads::Lead;
 use bitflags::Flags;
-use fd_table::{Description, Descriptor, Files, Message, Object};
+use fd_table::{Description, Descriptor, End, Files, Message, Object};
 use process::Process;
 use records::Entry;
 use rights::limits::{MAX_DESCRIPTORS, MAX_PROCESSES};
@@ -43,13 +43,21 @@ impl Digest {
         }
     }
 
+    /// Adds what is on its way between the ends of a pair, also where nobody has the other end any more.
+    fn add_end(&mut self, files: &Files, end: End) {
+        let pair = end.pair;
+        let side = end.side.other();
+        self.add_sent(files.sent(end));
+        self.add_sent(files.sent(End { pair, side }));
+    }
+
     /// Adds a descriptor, and how far what it is of has come.
     fn add_descriptor(&mut self, files: &Files, descriptor: Descriptor, what: Description) {
         self.add(u64::from(descriptor.rights.bits()) << 8 | u64::from(descriptor.fcntls.bits()));
         self.add(u64::from(what.offset) << 8 | u64::from(what.status.number()));
         match &what.object {
             Object::Node { node, .. } => self.add(node.number() as u64),
-            Object::End { end, .. } => self.add_sent(files.sent(*end)),
+            Object::End { end, .. } => self.add_end(files, *end),
         }
     }
 

@@ -6,7 +6,7 @@ ghost use Rattle.follow.specs.FollowedViews.{IsFollowed};
 ghost use Rattle.follow.specs.Shows.{IsShown};
 ghost use Rattle.follow.specs.Views.{placings_of, witness_of};
 
-use crate::branching::add_branches;
+use crate::branching::{add_branches, add_unshown};
 use crate::checking::shows;
 use crate::digests::digest_of;
 use crate::leads::{Lead, Leads, Search};
@@ -148,16 +148,17 @@ impl<'a> Trail<'a> {
         }
     }
 
-    /// Keeps the runs that come next behind a run, or notes where it stands, if none has come further.
+    /// Keeps the runs that come next behind a run. Where the processes whose calls come next have none, it is noted where it stands, if none has
+    /// come further, and others may move.
     fn branch(&mut self, lead: &Lead<'a>) {
         self.reach(lead);
         let first = self.leads.runs.len();
         add_branches(lead, &mut self.leads);
         if self.leads.runs.len() == first {
             self.note_end(lead);
-        } else {
-            self.leads.turn(first);
+            add_unshown(lead, &mut self.leads);
         }
+        self.leads.turn(first);
     }
 
     /// Moves the last moves of a run to the way.

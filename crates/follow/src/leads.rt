@@ -5,6 +5,7 @@ use crate::numbers::{ProcessPair, model_of};
 use crate::outcomes::Seen;
 use crate::places::Placing;
 use crate::standing::{Setting, Standing, after_skip, after_step};
+use crate::streams::{Sent, end_written};
 use crate::witnesses::Move;
 use instruction_set::{Instruction, Syscall};
 use link_tree::LinkTree;
@@ -44,6 +45,8 @@ pub(crate) struct Lead<'a> {
     pub machine: Machine<'a, LinkTree>,
     pub standing: Standing<'a>,
     pub pairs: Vec<ProcessPair>,
+    /// Through which ends of the record's its processes have written last.
+    pub sent: Vec<Sent>,
     /// The last moves. So many of the way stand before them.
     pub moves: Vec<Move>,
     pub base: usize,
@@ -133,6 +136,7 @@ impl<'a> Leads<'a> {
                 machine,
                 standing,
                 pairs,
+                sent: Vec::new(search.alloc),
                 moves: Vec::new(search.alloc),
                 base: 0,
                 is_short: false,
@@ -253,6 +257,7 @@ impl<'a> Lead<'a> {
             machine,
             standing,
             pairs: copied(alloc, &self.pairs, &mut is_short),
+            sent: copied(alloc, &self.sent, &mut is_short),
             moves: copied(alloc, &self.moves, &mut is_short),
             base: self.base,
             is_short,
@@ -322,6 +327,22 @@ impl<'a> Lead<'a> {
         outcome
     }
 
+    /// Notes through which end a process sends, if the entry of a place that it shows is a write through one.
+    fn note_sent(&mut self, process: u8, shows: Option<usize>) {
+        let Some(end) = end_written(&self.standing.left, shows) else {
+            return;
+        };
+        for own in self.sent.iter_mut() {
+            if own.process == process {
+                own.end = end;
+                return;
+            }
+        }
+        if self.sent.push(Sent { process, end }).is_err() {
+            self.is_short = true;
+        }
+    }
+
     /// One step. It is to show the entry of a place, if it is the last one of its call. What it came to is told, if it may be.
     fn step(&mut self, event: Event, shows: Option<usize>) -> Option<LineResult> {
         let Some(seen) = self.watch(event) else {
@@ -331,6 +352,7 @@ impl<'a> Lead<'a> {
             LineResult::Walking | LineResult::Waiting => None,
             _ => shows,
         };
+        self.note_sent(event.process, shows);
         let may = after_step(
             self.search.alloc,
             &self.search.setting(&self.pairs),

@@ -16,6 +16,7 @@ mod outcomes;
 pub mod places;
 mod prospects;
 pub mod standing;
+mod streams;
 mod transfers;
 pub mod witnesses;
 mod worlds;

@@ -5,8 +5,10 @@ use crate::leads::{Lead, Leads};
 use crate::numbers::is_process;
 use crate::outcomes::is_of_mode;
 use crate::standing::may_skip;
+use crate::streams::are_awaited;
 use crate::transfers::{is_repeat, transfer_in};
-use instruction_set::Instruction;
+use crate::worlds::end_of;
+use instruction_set::{Instruction, Syscall};
 use records::Event;
 use simulator::LineResult;
 
@@ -54,8 +56,10 @@ fn may_be_skipped(lead: &Lead<'_>, process: u8, event: &Event) -> bool {
 }
 
 /// What may come of the instruction at which a process stands.
-#[derive(Clone, Copy)]
+#[derive(Clone, Copy, PartialEq, Eq)]
 enum Prospect {
+    /// It writes once more what others of the record await.
+    Owes,
     /// It may show the next call of the process.
     Shows,
     /// It may be passed, or the call skipped.
@@ -63,8 +67,29 @@ enum Prospect {
     Stuck,
 }
 
+/// Whether a process stands at a write through an end, of which other entries take more than it has written: one write of the record is several
+/// then.
+fn owes(lead: &Lead<'_>, process: u8) -> bool {
+    let Some(call) = lead.call(process) else {
+        return false;
+    };
+    let Some(end) = end_of(lead, process, call) else {
+        return false;
+    };
+    let messages = lead.machine.files().sent(end).len();
+    for sent in &lead.sent {
+        if sent.process == process && matches!(call, Syscall::Write { .. }) {
+            return are_awaited(&lead.standing.left, sent.end, messages);
+        }
+    }
+    false
+}
+
 /// What may come of the instruction at which a process stands, before this is shown.
 fn prospect_before(lead: &Lead<'_>, process: u8, event: &Event) -> Prospect {
+    if may_pass(lead, process) && owes(lead, process) {
+        return Prospect::Owes;
+    }
     if may_show_event(lead, process, event) {
         return Prospect::Shows;
     }
@@ -97,14 +122,17 @@ impl<'a> Leads<'a> {
         }
     }
 
-    /// Whether a process is stuck in all runs from a place on.
-    fn are_all_stuck(&mut self, process: u8, first: usize) -> bool {
+    /// The best of what may come of the instructions at which a process stands in the runs from a place on.
+    fn best_prospect(&mut self, process: u8, first: usize) -> Prospect {
+        let mut best = Prospect::Stuck;
         for at in first..self.runs.len() {
-            if !matches!(self.prospect_at(process, at), Prospect::Stuck) {
-                return false;
+            match (self.prospect_at(process, at), best) {
+                (Prospect::Owes, _) => return Prospect::Owes,
+                (Prospect::Stuck, _) | (_, Prospect::Shows) => {}
+                (prospect, _) => best = prospect,
             }
         }
-        true
+        best
     }
 
     /// Puts the run of a place behind all others.
@@ -115,19 +143,21 @@ impl<'a> Leads<'a> {
         }
     }
 
-    /// Has those runs from a place on come first in which a process may show its next call, and drops those in which it is stuck, unless it
-    /// is in all of them.
+    /// Has those runs from a place on come first in which a process owes something, or else may show its next call, and drops those in which it
+    /// is stuck, unless it is in all of them.
     pub(crate) fn prefer_showing(&mut self, process: u8, first: usize) {
-        if self.are_all_stuck(process, first) {
+        let best = self.best_prospect(process, first);
+        if best == Prospect::Stuck {
             return;
         }
         let mut at = first;
         for _ in first..self.runs.len() {
-            match self.prospect_at(process, at) {
-                Prospect::Shows => at = at.saturating_add(1),
-                Prospect::Passes => self.put_last(at),
-                Prospect::Stuck => {
-                    self.put_last(at);
+            let prospect = self.prospect_at(process, at);
+            if prospect == best {
+                at = at.saturating_add(1);
+            } else {
+                self.put_last(at);
+                if prospect == Prospect::Stuck {
                     self.drop_last();
                 }
             }

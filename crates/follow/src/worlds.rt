@@ -37,7 +37,7 @@ fn end_at(lead: &Lead<'_>, process: u8, number: u8) -> Option<End> {
 }
 
 /// The end through which a call of a process takes or gives a message, if it does.
-fn end_of(lead: &Lead<'_>, process: u8, call: &Syscall) -> Option<End> {
+pub(crate) fn end_of(lead: &Lead<'_>, process: u8, call: &Syscall) -> Option<End> {
     let channel = match call {
         Syscall::Read { descriptor }
         | Syscall::Recvfd { descriptor }
