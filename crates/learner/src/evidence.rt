@@ -4,7 +4,7 @@ use crate::calls::{
     ROOT, answer_of, creates, fails_with, number_at, path_at, path_of, path_place, place_given,
     place_of, removes_directory,
 };
-use crate::places::{above, behind, last_name, place_at};
+use crate::places::{above, behind, ends_at_directory, last_name, place_at};
 use crate::room::Room;
 use crate::trees::{Presence, Tree};
 use records::{Binding, Entry, Event, MadeCall};
@@ -118,13 +118,10 @@ pub(crate) fn add_links(room: &mut Room, tree: &mut Tree, records: &[Vec<Entry>]
     }
 }
 
-/// What a path leads to that leads to something: a directory, if it ends in a slash, `.` or `..`.
+/// What the path of a call leads to that succeeded.
 fn kind_of(made: &MadeCall) -> Presence {
-    let Some(path) = path_of(made) else {
-        return Presence::File;
-    };
-    match last_name(path) {
-        [] | [b'.'] | [b'.', b'.'] => Presence::Directory,
+    match path_of(made) {
+        Some(path) if ends_at_directory(path) => Presence::Directory,
         _ => Presence::File,
     }
 }

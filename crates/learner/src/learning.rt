@@ -318,15 +318,21 @@ fn text_learnt(
 }
 
 /// The text of a task, of the calls of runs of one program: the tree, the processes and the programs that they show. Where a program would
-/// have more than 256 instructions, processes begin behind the last program that they went on as; and where that is still so, names of one
-/// directory with which the same is done are one. Nothing is claimed of it: whether the records follow it is to be asked. (own)
+/// have more than 256 instructions, names of one directory with which the same is done are one; where that is still so, processes begin behind
+/// the last program that they went on as, and at last both. Nothing is claimed of it: whether the records follow it is to be asked. (own)
 pub fn learn(alloc: Global, records: &[Vec<Entry>]) -> Result<Vec<u8>, LearnFault> {
     let mut room = Room::new(alloc);
-    let mut told = Page::new(alloc);
-    match text_learnt(&mut room, records, &told) {
+    match text_learnt(&mut room, records, &Page::new(alloc)) {
         Err(LearnFault::Points) => {}
         learnt => return learnt,
     }
+    let mut told = Page::new(alloc);
+    let merged = with_names_merged(&mut room, records, &mut told);
+    match text_learnt(&mut room, &merged, &told) {
+        Err(LearnFault::Points) => {}
+        learnt => return learnt,
+    }
+    let mut told = Page::new(alloc);
     let late = begun_late(&mut room, records, &mut told);
     match text_learnt(&mut room, &late, &told) {
         Err(LearnFault::Points) => {}

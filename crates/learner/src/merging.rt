@@ -2,7 +2,7 @@
 
 use crate::assembly::is_writable;
 use crate::calls::{flags_of, path_place, removes_directory};
-use crate::places::{above, behind, lies_beneath};
+use crate::places::{above, behind, ends_at_directory, lies_beneath};
 use crate::remade::entry_copy;
 use crate::room::Room;
 use records::{Binding, Entry, Event, MadeCall, Operand, Outcome, add_flags};
@@ -99,12 +99,27 @@ impl Names {
         }
     }
 
-    /// Notes what a call does with the names of its paths.
+    /// Notes what a call does with the names of its paths, and through descriptors of what stands at such a name.
     fn add_call(&mut self, room: &mut Room, made: &MadeCall) {
         for at in path_places(made.call) {
             if let Some(Operand::Path(path)) = made.operands.get(*at) {
                 let fact = fact_of(room, made, *at);
                 self.add_fact(room, path, fact);
+            }
+        }
+        if matches!(made.call, Call::Read | Call::Write) {
+            self.add_through(room, made);
+        }
+    }
+
+    /// Notes that bytes are read or written of what stands at a name.
+    fn add_through(&mut self, room: &mut Room, made: &MadeCall) {
+        for binding in &made.bindings {
+            if let Binding::Place { place, .. } = binding {
+                if self.position(place).is_some() {
+                    let fact = room.copy(b"bytes");
+                    self.add_fact(room, place, fact);
+                }
             }
         }
     }
@@ -119,9 +134,10 @@ impl Names {
         false
     }
 
-    /// Whether a name may be one with others: it is a place that a task can have, and nothing is used beneath it.
+    /// Whether a name may be one with others: it is a place that a task can have, with a name of its own, and nothing is used beneath it.
     fn may_be_merged(&self, name: &Name) -> bool {
         name.place.first() == Some(&b'/')
+            && !ends_at_directory(&name.place)
             && is_writable(&name.place)
             && !self.has_beneath(&name.place)
     }

@@ -23,6 +23,11 @@ pub(crate) fn last_name(place: &[u8]) -> &[u8] {
     place
 }
 
+/// Whether a path leads to a directory, if to anything: it ends in a slash, `.` or `..`.
+pub(crate) fn ends_at_directory(path: &[u8]) -> bool {
+    matches!(last_name(path), [] | [b'.'] | [b'.', b'.'])
+}
+
 /// What stands behind a place in one beneath it, with its slash, or nothing where it is the place itself.
 pub(crate) fn behind<'a>(place: &[u8], beneath: &'a [u8]) -> Option<&'a [u8]> {
     match beneath.strip_prefix(place) {

@@ -13,12 +13,13 @@ struct Progress {
     count: u32,
 }
 
-/// A file that was opened: how far it is read, and how far it was at most.
+/// A file that was opened: how far it is read or written, and where its reads and writes have ended.
 #[derive(Drop)]
 struct Reading {
     place: Vec<u8>,
     now: Progress,
-    furthest: Progress,
+    ends: Vec<Progress>,
+    is_written: bool,
 }
 
 /// Before the first byte.
@@ -28,25 +29,31 @@ const BEGINNING: Progress = Progress {
 };
 
 impl Reading {
-    /// Goes on by a read of so many bytes.
-    fn read(&mut self, bytes: u32) {
+    /// Goes on by so many bytes, read or written at once.
+    fn go_on(&mut self, room: &mut Room, bytes: u32) {
         if bytes > 0 {
             self.now.position = self.now.position.saturating_add(bytes);
             self.now.count = self.now.count.saturating_add(1);
-        }
-        if self.now.count > self.furthest.count {
-            self.furthest = self.now;
+            room.push(&mut self.ends, self.now);
         }
     }
 
-    /// Goes to a position of the record's. The offset in the task is told: the beginning where none is known for it.
+    /// Goes to a position of the record's. The offset in the task is told: that of the last end which isn't behind the position, or the beginning.
     fn seek(&mut self, position: u32) -> u32 {
-        if position == self.furthest.position {
-            self.now = self.furthest;
-        } else if position != self.now.position {
-            self.now = Progress { position, count: 0 };
+        if position == self.now.position {
+            return self.now.count;
         }
-        self.now.count
+        let mut last = BEGINNING;
+        for end in &self.ends {
+            if last.position <= end.position && end.position <= position {
+                last = *end;
+            }
+        }
+        self.now = Progress {
+            position,
+            count: last.count,
+        };
+        last.count
     }
 }
 
@@ -111,12 +118,14 @@ impl Readings {
             let place = tree.resolve(room, b"/", place);
             let reading = self.readings.len();
             self.bind(room, process, number, reading);
+            let ends = room.list();
             room.push(
                 &mut self.readings,
                 Reading {
                     place,
                     now: BEGINNING,
-                    furthest: BEGINNING,
+                    ends,
+                    is_written: false,
                 },
             );
         }
@@ -134,11 +143,21 @@ impl Readings {
         }
     }
 
-    /// Notes how many bytes came.
-    fn read(&mut self, tree: &mut Tree, reading: usize, bytes: u32) {
+    /// Notes how many bytes came. What was written isn't of the file's first bytes.
+    fn read(&mut self, room: &mut Room, tree: &mut Tree, reading: usize, bytes: u32) {
         if let Some(reading) = self.readings.get_mut(reading) {
-            reading.read(bytes);
-            tree.read(&reading.place, reading.now.count as usize);
+            reading.go_on(room, bytes);
+            if !reading.is_written {
+                tree.read(&reading.place, reading.now.count as usize);
+            }
+        }
+    }
+
+    /// Notes how many bytes were written.
+    fn write(&mut self, room: &mut Room, reading: usize, bytes: u32) {
+        if let Some(reading) = self.readings.get_mut(reading) {
+            reading.go_on(room, bytes);
+            reading.is_written = true;
         }
     }
 
@@ -187,7 +206,12 @@ impl Readings {
             Call::Fork => self.fork(room, process, answer),
             Call::Read => {
                 if let Some(reading) = self.own(room, tree, made, process) {
-                    self.read(tree, reading, answer);
+                    self.read(room, tree, reading, answer);
+                }
+            }
+            Call::Write => {
+                if let Some(reading) = self.own(room, tree, made, process) {
+                    self.write(room, reading, answer);
                 }
             }
             Call::Lseek => {
