@@ -14,6 +14,8 @@ pub(crate) struct Process {
     pub number: u32,
     /// Its first thread.
     pub leader: u32,
+    /// The line in which the fork began that has made it, or 0.
+    pub forked: u32,
     /// Its current directory.
     pub directory: Kept,
     /// Its root directory, if that isn't the first one.
@@ -30,6 +32,7 @@ impl Process {
         Process {
             number,
             leader: number,
+            forked: 0,
             directory: Kept::Unknown,
             root: Kept::Unknown,
             table: Table::first(),
@@ -116,9 +119,20 @@ impl Processes {
         }
     }
 
-    /// Makes known what a process has made: a thread, or a child with a copy of what the process has, if it isn't known already.
-    pub(crate) fn begin_child(&mut self, parent: usize, child: u32, is_thread: bool) {
-        if parent >= self.processes.len() || self.find_going_on(child).is_some() {
+    /// Whether a thread is of a process that goes on, or that the fork of a line has made: it may have ended before the fork comes back.
+    fn is_begun(&self, thread: u32, line: u32) -> bool {
+        match self.find(thread) {
+            Some(index) if index < self.processes.len() => {
+                let process = &self.processes[index];
+                !process.has_ended || process.forked == line
+            }
+            _ => false,
+        }
+    }
+
+    /// Makes known what a fork that began in a line has made: a thread, or a child with a copy of what the process has, if it isn't known already.
+    pub(crate) fn begin_child(&mut self, parent: usize, child: u32, is_thread: bool, line: u32) {
+        if parent >= self.processes.len() || self.is_begun(child, line) {
             return;
         }
         if is_thread {
@@ -127,6 +141,7 @@ impl Processes {
         let process = Process {
             number: child,
             leader: child,
+            forked: line,
             is_loading: false,
             has_ended: false,
             ..self.processes[parent]

@@ -99,7 +99,7 @@ impl<'t> Reader<'t> {
         if let Some(fork) = self.last_fork() {
             self.forks.pop();
             self.processes
-                .begin_child(fork.parent, thread, fork.is_thread);
+                .begin_child(fork.parent, thread, fork.is_thread, fork.line);
         }
         if let Some(process) = self.processes.find(thread) {
             return process;
@@ -164,7 +164,7 @@ impl<'t> Reader<'t> {
         if let Answer::Number(child) = came.returned.answer {
             if is_fork(came.name.bytes) {
                 self.processes
-                    .begin_child(process, child, is_thread(came.text));
+                    .begin_child(process, child, is_thread(came.text), came.first);
             }
         }
     }
