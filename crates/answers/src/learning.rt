@@ -113,7 +113,7 @@ fn learnt_answer(
         return Ok(Answer::new(alloc, text, DONE));
     };
     let mut told = Page::new(alloc);
-    say!(&mut told; NAME, ": no run was found that shows the calls of file ", at.saturating_add(1), "\n");
+    say!(&mut told; NAME, ": no run was found that shows the calls of file ", at.saturating_add(1), "; by the words of the task's head, if it has some, `follow` may find one\n");
     Ok(Answer {
         text,
         told: told.into_bytes()?,
