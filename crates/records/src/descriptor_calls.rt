@@ -101,6 +101,9 @@ fn add_flags(run: &mut Run, through: &Through<'_>) {
 /// New flags of a description.
 fn add_new_flags(run: &mut Run, through: &Through<'_>, append: bool, nonblock: bool) {
     let flags = description_flags(append, nonblock);
+    if through.seen.succeeds() {
+        run.known.set_waiting(through.mention, !nonblock);
+    }
     run.add_with(through, Call::FcntlSetfl, flags, through.seen.outcome);
 }
 

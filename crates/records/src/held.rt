@@ -6,7 +6,7 @@ use rights::Side;
 pub(crate) const MAX_FOLLOWED: u32 = 256;
 
 /// What a descriptor is of.
-#[derive(Clone, Copy)]
+#[derive(Clone, Copy, PartialEq, Eq)]
 pub(crate) enum Kept {
     /// It isn't known.
     Unknown,

@@ -31,6 +31,8 @@ pub(crate) struct Known {
     pairs: u32,
     /// The ends of pairs by the numbers that the record notes.
     ends: BTreeMap<u32, Kept>,
+    /// The ends that don't wait.
+    nonblocking: Vec<Kept>,
     /// Whether memory was refused for something that should be known.
     pub is_short: bool,
 }
@@ -44,6 +46,7 @@ impl Known {
             places: Vec::new(alloc),
             pairs: 0,
             ends: BTreeMap::new(alloc),
+            nonblocking: Vec::new(alloc),
             is_short: false,
         }
     }
@@ -79,6 +82,26 @@ impl Known {
     pub(crate) fn new_pair(&mut self) -> u32 {
         self.pairs = self.pairs.saturating_add(1);
         self.pairs
+    }
+
+    /// Whether what a descriptor is of waits, as far as is known.
+    pub(crate) fn waits(&mut self, mention: Mention<'_>) -> bool {
+        let kept = self.kept_of(mention);
+        !self.nonblocking.contains(&kept)
+    }
+
+    /// Notes whether what a descriptor is of waits.
+    pub(crate) fn set_waiting(&mut self, mention: Mention<'_>, waits: bool) {
+        let kept = self.kept_of(mention);
+        for at in 0..self.nonblocking.len() {
+            if at < self.nonblocking.len() && self.nonblocking[at] == kept {
+                self.nonblocking.swap_remove(at);
+                break;
+            }
+        }
+        if !waits && self.nonblocking.push(kept).is_err() {
+            self.is_short = true;
+        }
     }
 
     /// Notes which end a socket is.

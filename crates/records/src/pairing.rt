@@ -22,6 +22,7 @@ fn hold_end(run: &mut Run, end: Mention<'_>, kept: Kept, closes_on_exec: bool) {
 /// That an end doesn't wait.
 fn add_nonblock(run: &mut Run, seen: &SeenCall<'_>, end: Mention<'_>) {
     let through = Through { seen, mention: end };
+    run.known.set_waiting(end, false);
     run.add_with(&through, Call::FcntlSetfl, 2, Some(Outcome::Success(0)));
 }
 

@@ -36,10 +36,11 @@ fn add_seek(run: &mut Run, through: &Through<'_>) -> bool {
     true
 }
 
-/// Whether a call came to nothing since it was asked not to wait, though its descriptor may wait.
-fn gives_up(seen: &SeenCall<'_>) -> bool {
+/// Whether a call came to nothing since it was asked not to wait, though what its descriptor is of waits.
+fn gives_up(run: &mut Run, seen: &SeenCall<'_>, mention: Mention<'_>) -> bool {
     matches!(seen.outcome, Some(Outcome::Failure(Errno::EAGAIN)))
         && (seen.has(2, b"MSG_DONTWAIT") || seen.has(3, b"MSG_DONTWAIT"))
+        && run.known.waits(mention)
 }
 
 /// Bytes that go from one descriptor to another: a read, and a write where there were any.
@@ -156,7 +157,7 @@ pub(crate) fn take(run: &mut Run, seen: &SeenCall<'_>, streaming: Streaming) -> 
         _ => {}
     }
     match seen.mention(0) {
-        Some(mention) if seen.outcome.is_some() && !gives_up(seen) => {
+        Some(mention) if seen.outcome.is_some() && !gives_up(run, seen, mention) => {
             take_through(run, &Through { seen, mention }, streaming)
         }
         _ => Some(Reason::Unknown),
