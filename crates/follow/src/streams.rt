@@ -1,40 +1,13 @@
 //! What processes of a record send each other through the ends of pairs.
 
-use records::{Binding, Entry, Event, MadeCall, Operand, Outcome};
-use rights::{Call, Side};
-
-/// An end of a pair of the record.
-#[derive(Clone, Copy, PartialEq, Eq)]
-pub(crate) struct RecordedEnd {
-    pair: u32,
-    side: Side,
-}
+use records::{Entry, Event, Operand, Outcome, RecordedEnd};
+use rights::Call;
 
 /// The end through which a process of the task has shown a write last.
 #[derive(Clone, Copy)]
 pub(crate) struct Sent {
     pub process: u8,
     pub end: RecordedEnd,
-}
-
-/// What a descriptor of a call is, if it is an end.
-fn end_of(made: &MadeCall, number: u32) -> Option<RecordedEnd> {
-    for binding in &made.bindings {
-        match binding {
-            Binding::End {
-                descriptor,
-                pair,
-                side,
-            } if *descriptor == number => {
-                return Some(RecordedEnd {
-                    pair: *pair,
-                    side: *side,
-                });
-            }
-            _ => {}
-        }
-    }
-    None
 }
 
 /// The end through which bytes went in an entry, if it is this call.
@@ -44,7 +17,7 @@ fn end_in(entry: &Entry, call: Call) -> Option<RecordedEnd> {
     };
     match (made.operands.first(), made.outcome) {
         (Some(Operand::Number(number)), Outcome::Success(bytes))
-            if made.call == call && bytes > 0 => { end_of(made, *number) }
+            if made.call == call && bytes > 0 => { made.end_of(*number) }
         _ => None,
     }
 }

@@ -1,8 +1,8 @@
 //! How many messages of the task a read or a write of the record is, of pairs between its own processes.
 
-use crate::calls::{RecordedEnd, end_through};
+use crate::calls::end_through;
 use crate::room::Room;
-use records::{Entry, Event, MadeCall};
+use records::{Entry, Event, MadeCall, RecordedEnd};
 use rights::{Call, Side};
 
 /// Bytes that an entry sends or takes.

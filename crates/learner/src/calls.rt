@@ -1,7 +1,7 @@
 //! What a call of a record was given and came to.
 
-use records::{Binding, MadeCall, Operand, Outcome};
-use rights::{Call, Errno, OpenFlags, Side};
+use records::{Binding, MadeCall, Operand, Outcome, RecordedEnd};
+use rights::{Call, Errno, OpenFlags};
 
 /// The number that stands for the directory of a path from the root, which no process has.
 pub(crate) const ROOT: u32 = u32::MAX;
@@ -44,33 +44,6 @@ pub(crate) fn place_of(made: &MadeCall, number: u32) -> Option<&[u8]> {
         if let Binding::Place { descriptor, place } = binding {
             if *descriptor == number {
                 return Some(place.as_slice());
-            }
-        }
-    }
-    None
-}
-
-/// An end of a pair of the record.
-#[derive(Clone, Copy)]
-pub(crate) struct RecordedEnd {
-    pub pair: u32,
-    pub side: Side,
-}
-
-/// The end that a descriptor of a call is of.
-pub(crate) fn end_of(made: &MadeCall, number: u32) -> Option<RecordedEnd> {
-    for binding in &made.bindings {
-        if let Binding::End {
-            descriptor,
-            pair,
-            side,
-        } = binding
-        {
-            if *descriptor == number {
-                return Some(RecordedEnd {
-                    pair: *pair,
-                    side: *side,
-                });
             }
         }
     }
@@ -150,7 +123,7 @@ pub(crate) fn path_of(made: &MadeCall) -> Option<&[u8]> {
 /// The end that a call goes through.
 pub(crate) fn end_through(made: &MadeCall) -> Option<RecordedEnd> {
     match number_at(made, 0) {
-        Some(number) => end_of(made, number),
+        Some(number) => made.end_of(number),
         None => None,
     }
 }

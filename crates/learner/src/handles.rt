@@ -1,9 +1,9 @@
 //! The descriptors of a record's processes, each from the call that gives it to the one that closes it.
 
-use crate::calls::{RecordedEnd, answer_of, end_of, end_through, number_at, place_of, second_end};
+use crate::calls::{answer_of, end_through, number_at, place_of, second_end};
 use crate::room::Room;
 use crate::trees::Tree;
-use records::{Entry, Event, MadeCall};
+use records::{Entry, Event, MadeCall, RecordedEnd};
 use rights::{Call, Side};
 
 /// How many numbers are input, output and errors.
@@ -194,7 +194,7 @@ impl Handles {
             Some(place) if !is_standard => Some(tree.resolve(room, b"/", place)),
             _ => None,
         };
-        if place.is_none() && !is_standard && end_of(made, number).is_none() {
+        if place.is_none() && !is_standard && made.end_of(number).is_none() {
             return None;
         }
         let handle = Handle {

@@ -3,8 +3,7 @@
 use crate::assembly::{assembly_of, subject_of};
 use crate::automata::{Arrival, Automaton, Step};
 use crate::calls::{
-    answer_of, end_of, makes_descriptor, number_at, path_at, path_place, place_given, place_of,
-    second_end,
+    answer_of, makes_descriptor, number_at, path_at, path_place, place_given, place_of, second_end,
 };
 use crate::evidence::place_in;
 use crate::needs::{Ends, Need, add_connection, add_need};
@@ -80,7 +79,7 @@ fn holding_of(room: &mut Room, tree: &Tree, made: &MadeCall, answer: u32) -> Hol
     if let Some(place) = place_of(made, answer) {
         return Holding::Node(tree.resolve(room, b"/", place));
     }
-    if let Some(end) = end_of(made, answer) {
+    if let Some(end) = made.end_of(answer) {
         return if end.pair == 0 {
             Holding::World { first: 0 }
         } else {
@@ -153,7 +152,7 @@ impl Running {
 
     /// What a descriptor is of that comes by a message: of a connection, if it is an end that comes from the world.
     fn received(&self, room: &mut Room, tree: &Tree, made: &MadeCall, answer: u32) -> Holding {
-        match (self.table.through(made), end_of(made, answer)) {
+        match (self.table.through(made), made.end_of(answer)) {
             (Some(Holding::World { first }), Some(end)) if end.pair > 0 => Holding::Connection {
                 first: *first,
                 pair: end.pair,

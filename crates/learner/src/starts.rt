@@ -1,7 +1,7 @@
 //! What the first processes of a record begin with.
 
 use crate::assembly::is_writable;
-use crate::calls::{answer_of, end_of, makes_descriptor, number_at, place_of};
+use crate::calls::{answer_of, makes_descriptor, number_at, place_of};
 use crate::room::Room;
 use crate::tables::{Holding, Table};
 use crate::trees::Tree;
@@ -43,7 +43,7 @@ fn first_holding(room: &mut Room, tree: &Tree, made: &MadeCall, number: u32, sho
     if is_of_file(made) {
         return Holding::Node(room.copy(b"/dev/null"));
     }
-    match end_of(made, number) {
+    match made.end_of(number) {
         Some(end) if end.pair > 0 => Holding::End {
             pair: end.pair,
             side: end.side,

@@ -1,5 +1,5 @@
 -- What is kept of a recorded run: an entry for each call, in the order in which the calls end. (own)
-use Rattle.std.specs.Prelude.{◌==◌, ◌^◌, ◌&&◌, ℕ, Bool, true, false, nat_le, nat_lt, List, [], ◌∷◌, Option, Some, None}
+use Rattle.std.specs.Prelude.{◌==◌, ◌^◌, ◌&&◌, if◌then◌else◌, ℕ, Bool, true, false, nat_le, nat_lt, List, [], ◌∷◌, Option, Some, None}
 use Rattle.std.specs.List.{list_all}
 use Rattle.rights.specs.Calls.{Call, Open, Openat, Read, Write, Sendfd, Recvfd, Lseek, Ftruncate, Fsync, Fstat, Fcntl_getfl, Fcntl_setfl, Fstatat, Stat, Mkdirat, Mkdir}
 use Rattle.rights.specs.Calls.{Unlinkat, Unlink, Renameat, Dup, Close, Cap_rights_limit, Cap_fcntls_limit, Cap_enter, Cap_getmode, Socketpair, Fork}
@@ -72,6 +72,17 @@ pub data RecordedOutcome : Type 0 where
 pub data Binding : Type 0 where
   Is_place : (descriptor : ℕ) (place : PathText) → Binding
   Is_end : (descriptor pair : ℕ) (side : SideNumber) → Binding
+
+-- an end of a pair of sockets
+pub record RecordedEnd : Type 0 where
+  pub pair : ℕ
+  pub side : SideNumber
+
+-- the end that the descriptor of a number is of: what the first binding says that is of it and of an end
+abbrev pub end_bound : ℕ → List Binding → Option RecordedEnd
+end_bound n [] = None
+end_bound n (Is_place descriptor place ∷ bindings) = end_bound n bindings
+end_bound n (Is_end descriptor pair side ∷ bindings) = if descriptor == n then Some (record { pair = pair; side = side }) else end_bound n bindings
 
 -- A call with its operands, what it came to, what the descriptors that it names or makes are, and how many bytes went through.
 pub record MadeCall : Type 0 where

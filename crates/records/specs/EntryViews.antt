@@ -6,6 +6,7 @@ use Rattle.records.specs.declared.entries.Outcome.{Outcome as OutcomeCode}
 use Rattle.records.specs.declared.entries.Outcome.TheVariants as outcome
 use Rattle.records.specs.declared.entries.Binding.{Binding as BindingCode}
 use Rattle.records.specs.declared.entries.Binding.TheVariants as binding
+use Rattle.records.specs.declared.entries.RecordedEnd.{RecordedEnd as EndCode}
 use Rattle.records.specs.declared.entries.MadeCall.{MadeCall as MadeCode}
 use Rattle.records.specs.declared.entries.Reason.{Reason as ReasonCode}
 use Rattle.records.specs.declared.entries.Reason.TheVariants as reason
@@ -15,7 +16,7 @@ use Rattle.records.specs.declared.entries.Event.{Event as EventCode}
 use Rattle.records.specs.declared.entries.Event.TheVariants as event
 use Rattle.records.specs.declared.entries.Entry.{Entry as EntryCode}
 use Rattle.records.specs.OperandViews.{operand_seen}
-use Rattle.records.specs.Calls.{RecordedOutcome, Succeeds, Fails, Binding, Is_place, Is_end, MadeCall, Reason, Loader, Quiet, Global, Right, Unknown, Name, WantedRight, LeftOut}
+use Rattle.records.specs.Calls.{RecordedOutcome, Succeeds, Fails, Binding, Is_place, Is_end, RecordedEnd, MadeCall, Reason, Loader, Quiet, Global, Right, Unknown, Name, WantedRight, LeftOut}
 use Rattle.records.specs.Calls.{RecordedEvent, Called, Ended, Omitted, RecordSpan, RecordEntry, RecordedCalls}
 
 abbrev pub record_span_seen : SpanCode → RecordSpan
@@ -28,6 +29,9 @@ outcome_seen (outcome.Failure error) = Fails (errno_of error)
 abbrev pub binding_seen : BindingCode → Binding
 binding_seen (binding.Place descriptor place) = Is_place descriptor place.items
 binding_seen (binding.End descriptor pair side) = Is_end descriptor pair (side_seen side)
+
+abbrev pub recorded_end_seen : EndCode → RecordedEnd
+recorded_end_seen end = record { pair = end.pair; side = side_seen end.side }
 
 abbrev pub made_seen : MadeCode → MadeCall
 made_seen made = record {

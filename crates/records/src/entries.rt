@@ -1,8 +1,8 @@
 //! The entries of a record: what each call was and what it came to.
 
-ghost use Rattle.std.specs.Prelude.{◌≡◌};
-ghost use Rattle.records.specs.Calls.{is_counted};
-ghost use Rattle.records.specs.EntryViews.{event_seen, reason_seen};
+ghost use Rattle.std.specs.Prelude.{◌≡◌, map, option_map};
+ghost use Rattle.records.specs.Calls.{end_bound, is_counted};
+ghost use Rattle.records.specs.EntryViews.{binding_seen, event_seen, made_seen, reason_seen, recorded_end_seen};
 ghost use Rattle.records.specs.Named.{reason_name};
 ghost use Rattle.records.specs.Texts.{has_call, is_left_out, is_same, wants_right};
 
@@ -41,6 +41,38 @@ pub enum Binding {
     },
 }
 
+/// An end of a pair of sockets.
+#[derive(Clone, Copy, PartialEq, Eq)]
+pub struct RecordedEnd {
+    pub pair: u32,
+    pub side: Side,
+}
+
+/// The end that the descriptor of a number is of, as some bindings tell it.
+fn end_bound(bindings: &[Binding], number: u32) -> Option<RecordedEnd>
+    ensures { option_map recorded_end_seen result ≡ end_bound number (map binding_seen bindings.now) }
+{
+    match bindings {
+        [] => None,
+        [Binding::Place { .. }, bindings @ ..] => end_bound(bindings, number),
+        [
+            Binding::End {
+                descriptor,
+                pair,
+                side,
+            },
+            bindings @ ..,
+        ] => {
+            if *descriptor == number {
+                let (pair, side) = (*pair, *side);
+                Some(RecordedEnd { pair, side })
+            } else {
+                end_bound(bindings, number)
+            }
+        }
+    }
+}
+
 /// A call that a process made.
 #[derive(Drop)]
 pub struct MadeCall {
@@ -52,6 +84,15 @@ pub struct MadeCall {
     pub bindings: Vec<Binding>,
     /// How many bytes went through, of a stream.
     pub bytes: Option<u32>,
+}
+
+impl MadeCall {
+    /// The end that the descriptor of a number is of, if the call names or makes it and it is one.
+    pub fn end_of(&self, number: u32) -> Option<RecordedEnd>
+        ensures { option_map recorded_end_seen result ≡ end_bound number (made_seen self.now).bindings }
+    {
+        end_bound(&self.bindings, number)
+    }
 }
 
 /// Why a call is left out.

@@ -46,7 +46,9 @@ mod words;
 pub mod writing;
 
 pub use beginnings::first_processes;
-pub use entries::{Binding, Entry, Event, LeftOut, MadeCall, Outcome, Reason, Span, WantedRight};
+pub use entries::{
+    Binding, Entry, Event, LeftOut, MadeCall, Outcome, Reason, RecordedEnd, Span, WantedRight,
+};
 pub use faults::CallsFault;
 pub use line_texts::add_event;
 pub use operands::{Kind, Operand, operand_kinds};
