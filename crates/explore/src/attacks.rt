@@ -12,7 +12,7 @@ ghost use Rattle.explore.specs.Attacks.{AreTried, AreTriedByEach, GoBy, GoesBy, 
 ghost use Rattle.explore.specs.DeedViews.{deeds_in};
 ghost use Rattle.explore.specs.MoveViews.{move_of};
 
-use crate::moves::bytes_to_try;
+use crate::tried_bytes::bytes_to_try;
 use instruction_set::{Instruction, Operand, Path, Syscall, is_valid_path};
 use rights::limits::MAX_DESCRIPTORS;
 use rights::{Memory, OpenFlags, Rights};

@@ -28,12 +28,18 @@ impl Digest {
         self.second = second ^ (second >> 31);
     }
 
-    /// Adds a text behind what is there.
+    /// Adds a text behind what is there, eight bytes at a time.
     pub(crate) fn add_text(&mut self, text: &[u8]) {
         self.add(text.len() as u64);
-        for byte in text {
-            self.add(u64::from(*byte));
+        let mut word: u64 = 0;
+        for (at, byte) in text.iter().enumerate() {
+            word = word << 8 | u64::from(*byte);
+            if at % 8 == 7 {
+                self.add(word);
+                word = 0;
+            }
         }
+        self.add(word);
     }
 
     /// Adds another digest behind what is there.

@@ -14,39 +14,10 @@ use file_tree::NodeId;
 use instruction_set::{Instruction, Operand, Syscall};
 use rights::limits::{MAX_DESCRIPTORS, MAX_PROCESSES};
 use rights::{Memory, Op};
-use std::alloc::Global;
 use syscalls::Event;
-use task::Task;
 
 /// How many messages of an attacker are on their way at most: more can be sent when they were taken.
 const MAX_SENT: usize = 2;
-
-/// Whether some comparison of a task's programs is with a value that this byte is, or is beside.
-fn is_compared(task: &Task, byte: u8) -> bool {
-    let byte = u64::from(byte);
-    for named in task.programs() {
-        for instruction in named.program.code() {
-            if let Instruction::Jeq { value, .. } | Instruction::Jlt { value, .. } = instruction {
-                let value = u64::from(*value);
-                if byte <= value + 1 && value <= byte + 1 {
-                    return true;
-                }
-            }
-        }
-    }
-    false
-}
-
-/// The bytes that are tried for `in`: 0, and those that some program compares with, and their neighbours.
-pub(crate) fn bytes_to_try(alloc: Global, task: &Task) -> Result<Vec<u8>, Memory> {
-    let mut bytes = Vec::new(alloc);
-    for byte in 0..=255 {
-        if byte == 0 || is_compared(task, byte) {
-            bytes.push(byte)?;
-        }
-    }
-    Ok(bytes)
-}
 
 /// Whether a descriptor is of an end of a socket pair.
 fn is_end(open: Option<(Descriptor, Description)>) -> bool {

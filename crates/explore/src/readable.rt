@@ -1,5 +1,6 @@
-//! Which files' contents programs may read.
+//! What of a state its programs may ask: files' contents, and registers.
 
+use crate::live_registers::LiveRegisters;
 use file_tree::Kind;
 use instruction_set::{Instruction, Syscall};
 use lookup::last_name;
@@ -7,14 +8,17 @@ use rights::Memory;
 use std::alloc::Global;
 use task::{FirstObject, Grant, Task, node_text, none_marked};
 
-/// The last names of the files that a task's programs may read. What others contain, no program can ask.
+/// What a task's programs may ask of a state.
 #[derive(Drop)]
 pub(crate) struct Readable<'a> {
+    /// The last names of the files that they may read. What others contain, none can ask.
     names: Vec<&'a [u8]>,
     /// Names may change or lead elsewhere, so that any file may be read.
     any: bool,
     /// The policy, where attackers are to be measured by it.
     pub policy: &'a [Grant],
+    /// The registers that they may look at.
+    pub registers: LiveRegisters,
 }
 
 impl<'a> Readable<'a> {
@@ -54,7 +58,12 @@ impl<'a> Readable<'a> {
         } else {
             task.grants()
         };
-        Ok(Readable { names, any, policy })
+        Ok(Readable {
+            names,
+            any,
+            policy,
+            registers: LiveRegisters::new(alloc, task)?,
+        })
     }
 
     /// Whether a file at this place may be read.

@@ -5,7 +5,7 @@ use crate::breaking::watched_step;
 use crate::digests::Digest;
 use crate::readable::Readable;
 use crate::shared_trees::SharedTree;
-use crate::states::{digest_of, open_at};
+use crate::states::{Parts, digest_of, open_at};
 use crate::trees::{TreeDigest, digest_of_tree};
 use fd_table::{Description, Descriptor};
 use file_tree::NodeId;
@@ -172,6 +172,11 @@ impl<'a> Runner<'a> {
             self.is_changed = false;
         }
         let machine = &self.machine;
-        digest_of(self.alloc, machine.processes(), machine.files(), &self.tree)
+        let parts = Parts {
+            processes: machine.processes(),
+            files: machine.files(),
+            tree: &self.tree,
+        };
+        digest_of(self.alloc, &parts, &readable.registers)
     }
 }

@@ -1,6 +1,8 @@
-//! Digests of a machine's state. Numbers of descriptions and pairs, which nothing shows, count by their first appearance alone.
+//! Digests of a machine's state. Numbers of descriptions and pairs, which nothing shows, count by their first appearance alone, and registers only
+//! where a program may still look at them.
 
 use crate::digests::Digest;
+use crate::live_registers::LiveRegisters;
 use crate::trees::TreeDigest;
 use bitflags::Flags;
 use fd_table::{Class, Description, DescriptionId, Descriptor, End, Files, Object, PairId, Side};
@@ -70,6 +72,7 @@ fn class_number(class: Class) -> u64 {
 struct Met<'s> {
     files: &'s Files,
     tree: &'s TreeDigest,
+    registers: &'s LiveRegisters,
     digest: Digest,
     descriptions: Vec<DescriptionId>,
     pairs: Vec<PairId>,
@@ -148,20 +151,36 @@ impl<'s> Met<'s> {
         }
     }
 
+    /// Adds the registers that a process may look at.
+    fn add_registers(&mut self, process: &Process) {
+        // (an attacker does what it likes, whatever they hold)
+        if process.is_hostile() {
+            return;
+        }
+        let (program, point) = (process.program, process.point);
+        for (register, value) in process.registers.iter().enumerate() {
+            if self.registers.has(program, point, register as u8) {
+                self.digest.add(u64::from(*value));
+            }
+        }
+    }
+
     /// Adds a process, with what its call has under way, and its table.
     fn add_process(&mut self, number: u8, process: &Process) {
+        // (of one that has ended nothing is left)
+        if !process.alive {
+            return self.digest.add(0);
+        }
         let flags = bits_of([
             process.mode(),
-            process.alive,
+            true,
             process.is_marked(),
             process.is_walking(),
         ]);
         self.digest.add(
             (u64::from(process.program) << 16) | (u64::from(process.point) << 8) | flags,
         );
-        for value in process.registers {
-            self.digest.add(u64::from(value));
-        }
+        self.add_registers(process);
         match process.walking() {
             None => {}
             Some(Walking::One(walk)) => self.add_walk(walk),
@@ -193,23 +212,31 @@ impl<'s> Met<'s> {
     }
 }
 
-/// The digest of a state, by the parts of the machine.
+/// The parts of a machine's state.
+#[derive(Clone, Copy)]
+pub(crate) struct Parts<'s> {
+    pub processes: &'s [Process],
+    pub files: &'s Files,
+    pub tree: &'s TreeDigest,
+}
+
+/// The digest of a state, in which registers count that programs may look at.
 pub(crate) fn digest_of(
     alloc: Global,
-    processes: &[Process],
-    files: &Files,
-    tree: &TreeDigest,
+    parts: &Parts<'_>,
+    registers: &LiveRegisters,
 ) -> Result<Digest, Memory> {
     let mut met = Met {
-        files,
-        tree,
-        digest: tree.whole,
+        files: parts.files,
+        tree: parts.tree,
+        registers,
+        digest: parts.tree.whole,
         descriptions: Vec::with_capacity(alloc, 2 * MAX_DESCRIPTORS)?,
         pairs: Vec::with_capacity(alloc, MAX_DESCRIPTORS)?,
         is_short: false,
     };
     for number in 0..MAX_PROCESSES as u8 {
-        if let Some(process) = processes.get(number as usize) {
+        if let Some(process) = parts.processes.get(number as usize) {
             met.add_process(number, process);
         }
     }

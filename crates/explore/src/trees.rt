@@ -18,7 +18,7 @@ pub(crate) struct TreeDigest {
     pub grants: Vec<Option<usize>>,
 }
 
-/// Adds what a node is, with its content where that counts.
+/// Adds what a node is, with its content where that counts, eight bytes at a time.
 fn add_content<T: Tree>(digest: &mut Digest, tree: &T, node: NodeId, counts: bool)
     requires { node < length (T.nodes tree.now) }
 {
@@ -30,11 +30,18 @@ fn add_content<T: Tree>(digest: &mut Digest, tree: &T, node: NodeId, counts: boo
     if !counts {
         return;
     }
+    digest.add(tree.len(node) as u64);
+    let mut word: u64 = 0;
     for at in 0..tree.len(node) {
         if let Some(byte) = tree.byte_at(node, at) {
-            digest.add(u64::from(byte));
+            word = word << 8 | u64::from(byte);
+        }
+        if at % 8 == 7 {
+            digest.add(word);
+            word = 0;
         }
     }
+    digest.add(word);
 }
 
 /// The digest of a tree. The order in which its nodes were made doesn't count, and neither do removed ones, and what no program can read.
