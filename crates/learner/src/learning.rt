@@ -121,7 +121,6 @@ pub(crate) fn learn_program(
             let messages = messages_of(room, entries);
             let offsets = offsets_of(room, tree, entries);
             let table = first_table(room, tree, entries, process);
-            table.note_places(room, tree);
             if first.is_none() {
                 first = Some(table.copy(room));
             }

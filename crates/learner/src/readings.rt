@@ -2,6 +2,8 @@
 
 use crate::calls::{answer_of, number_at, place_of};
 use crate::room::Room;
+use crate::starts::first_table;
+use crate::tables::{Holding, Table};
 use crate::trees::Tree;
 use records::{Entry, Event, MadeCall};
 use rights::Call;
@@ -111,23 +113,38 @@ impl Readings {
         );
     }
 
+    /// Notes that a descriptor is of a file at its beginning.
+    fn begin(&mut self, room: &mut Room, place: Vec<u8>, process: u32, number: u32) {
+        let reading = self.readings.len();
+        self.bind(room, process, number, reading);
+        let ends = room.list();
+        room.push(
+            &mut self.readings,
+            Reading {
+                place,
+                now: BEGINNING,
+                ends,
+                is_written: false,
+            },
+        );
+    }
+
+    /// Notes the files that a process begins with, also one that later calls tell of alone.
+    fn begin_all(&mut self, room: &mut Room, table: &Table, process: u32) {
+        for held in &table.held {
+            if let (Holding::Node(place), Some(number)) = (&held.holding, held.real) {
+                let place = room.copy(place);
+                self.begin(room, place, process, number);
+            }
+        }
+    }
+
     /// Notes that a file was opened as a descriptor.
     fn open(&mut self, room: &mut Room, tree: &Tree, made: &MadeCall, process: u32, number: u32) {
         self.close(process, number);
         if let Some(place) = place_of(made, number) {
             let place = tree.resolve(room, b"/", place);
-            let reading = self.readings.len();
-            self.bind(room, process, number, reading);
-            let ends = room.list();
-            room.push(
-                &mut self.readings,
-                Reading {
-                    place,
-                    now: BEGINNING,
-                    ends,
-                    is_written: false,
-                },
-            );
+            self.begin(room, place, process, number);
         }
     }
 
@@ -232,6 +249,11 @@ pub(crate) fn offsets_of(room: &mut Room, tree: &mut Tree, entries: &[Entry]) ->
         readings: room.list(),
         readers: room.list(),
     };
+    for process in &room.processes(entries) {
+        let table = first_table(room, tree, entries, *process);
+        table.note_places(room, tree);
+        readings.begin_all(room, &table, *process);
+    }
     let mut offsets = room.list();
     for entry in entries {
         let mut offset = 0u32;

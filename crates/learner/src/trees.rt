@@ -230,10 +230,30 @@ impl Tree {
         self.change_to(room, Deed::Moves, from, to);
     }
 
+    /// Whether a name was looked for beneath a place.
+    fn was_gone_through(&self, place: &[u8]) -> bool {
+        for node in &self.nodes {
+            if lies_beneath(place, &node.place) {
+                return true;
+            }
+        }
+        false
+    }
+
+    /// Notes what stands at a place of which nothing was known: a directory, if a name was looked for beneath it.
+    fn meet_new(&mut self, room: &mut Room, place: &[u8], presence: Presence) {
+        let presence = if self.was_gone_through(place) {
+            Presence::Directory
+        } else {
+            presence
+        };
+        self.add(room, place, presence, presence);
+    }
+
     /// Notes that something stands at a place, whatever is above it.
     fn meet(&mut self, room: &mut Room, place: &[u8], presence: Presence) {
         match self.at(place) {
-            None => self.add(room, place, presence, presence),
+            None => self.meet_new(room, place, presence),
             Some(Presence::Absent) => {
                 self.change(room, making(presence), place);
                 self.set(place, presence);
