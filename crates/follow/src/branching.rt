@@ -10,6 +10,7 @@ use crate::worlds::{add_by_world, may_help};
 use instruction_set::{Instruction, Operand, Register, Syscall};
 use process::Process;
 use records::{Entry, Event as Recorded, MadeCall, Outcome};
+use rights::limits::MAX_DESCRIPTORS;
 use rights::{Call, Errno};
 use syscalls::Event;
 use texts::Page;
@@ -133,6 +134,31 @@ fn is_handed_on(code: &[Instruction], register: Register) -> bool {
     false
 }
 
+/// Whether a call names a descriptor by what a register holds.
+fn names_descriptor(call: &Syscall, register: Register) -> bool {
+    let own = Operand::Register(register);
+    match call {
+        Syscall::Sendfd { sent: other, .. } | Syscall::Renameat { target: other, .. }
+            if *other == own => true,
+        _ => call.first_operand() == Some(own),
+    }
+}
+
+/// Adds the numbers that a descriptor may have, where some call of a program names one by what a register holds.
+fn add_numbers(bytes: &mut Page, code: &[Instruction], register: Register) {
+    for instruction in code {
+        match instruction {
+            Instruction::Invoke { call, .. } if names_descriptor(call, register) => {
+                for number in 0..MAX_DESCRIPTORS as u32 {
+                    add_byte(bytes, number);
+                }
+                break;
+            }
+            _ => {}
+        }
+    }
+}
+
 /// The first byte that isn't among these, or the last one.
 fn other_byte(bytes: &[u8]) -> u8 {
     let mut other: u8 = 0;
@@ -146,7 +172,7 @@ fn other_byte(bytes: &[u8]) -> u8 {
 }
 
 /// The bytes that are tried where a process reads one into this register: those with which the comparisons right behind it are, and
-/// another one; where the register is handed on, those of all comparisons of the task, too.
+/// another one; where the register is handed on, those of all comparisons of the task, too, and where it names a descriptor, all numbers.
 fn inputs(search: &Search<'_>, state: &Process, register: Register) -> Page {
     let mut bytes = Page::new(search.alloc);
     let code = code_of(search.task.programs(), state.program);
@@ -159,6 +185,7 @@ fn inputs(search: &Search<'_>, state: &Process, register: Register) -> Page {
             add_all(&mut bytes, named.program.code());
         }
     }
+    add_numbers(&mut bytes, code, register);
     let other = other_byte(bytes.as_bytes());
     add_byte(&mut bytes, u32::from(other));
     bytes
