@@ -7,7 +7,7 @@ use crate::room::Room;
 use crate::tables::{Held, Holding, Table};
 use crate::trees::{Deed, Link, Node, Presence, Tree};
 use crate::worlds::{Footing, WorldEnd, world_code};
-use rights::limits::MAX_BYTES;
+use rights::limits::{MAX_BYTES, MAX_DESCRIPTORS};
 use rights::{Op, Side};
 use texts::{Page, Say, parts_of, say};
 
@@ -19,10 +19,12 @@ pub(crate) struct Program {
     pub table: Table,
 }
 
-/// A pair that is there from the start: of an end of a program's process, by its number there, or of a pair of the record.
+/// A pair that is there from the start: of an end of a program's process, by its number there, of all ends of which nothing is asked, where the
+/// world would have too many, or of a pair of the record.
 #[derive(Clone, Copy, PartialEq, Eq)]
 enum Origin {
     World { program: usize, first: u8 },
+    Unasked,
     Recorded(u32),
 }
 
@@ -36,6 +38,21 @@ pub(crate) struct Draft<'a> {
     pub policy: Option<&'a Policy>,
     /// The pairs that are there from the start, in the order of their numbers.
     pairs: Vec<Origin>,
+    /// All ends of which nothing is asked are of one pair.
+    shares: bool,
+}
+
+/// How many ends the processes of programs begin with whose other side the world has.
+fn ends_of_world(programs: &[Program]) -> usize {
+    let mut count: usize = 0;
+    for program in programs {
+        for held in &program.table.held {
+            if matches!(held.holding, Holding::World { .. }) {
+                count = count.saturating_add(1);
+            }
+        }
+    }
+    count
 }
 
 /// Adds a node.
@@ -91,12 +108,25 @@ impl<'a> Draft<'a> {
         tree: Tree,
         policy: Option<&'a Policy>,
     ) -> Draft<'a> {
+        let shares = ends_of_world(&programs) > MAX_DESCRIPTORS;
         Draft {
             programs,
             needs,
             tree,
             policy,
             pairs: room.list(),
+            shares,
+        }
+    }
+
+    /// Which pair an end of the world's is of.
+    fn origin_of(&self, program: usize, first: u8) -> Origin {
+        let own = need_of(&self.needs, Ends::Own { program, first });
+        let connections = need_of(&self.needs, Ends::Connections { program, first });
+        if self.shares && own.is_none() && connections.is_none() {
+            Origin::Unasked
+        } else {
+            Origin::World { program, first }
         }
     }
 
@@ -116,7 +146,7 @@ impl<'a> Draft<'a> {
         let held = self.programs.get(program)?.table.held.get(at)?;
         let (origin, side) = match held.holding {
             Holding::Node(_) | Holding::Connection { .. } => return None,
-            Holding::World { first } => (Origin::World { program, first }, Side::A),
+            Holding::World { first } => (self.origin_of(program, first), Side::A),
             Holding::End { pair, side, .. } => (Origin::Recorded(pair), side),
         };
         Some((self.pair_of(room, origin), side))
@@ -182,21 +212,32 @@ impl<'a> Draft<'a> {
     fn world_ends(&self, room: &mut Room) -> Vec<WorldEnd> {
         let mut ends = room.list();
         for origin in &self.pairs {
-            if let Origin::World { program, first } = *origin {
-                let number = ends.len();
-                let need = need_of(&self.needs, Ends::Own { program, first });
-                let connections = need_of(&self.needs, Ends::Connections { program, first });
-                room.push(
-                    &mut ends,
-                    WorldEnd {
-                        number,
-                        need,
-                        connections,
-                    },
-                );
-            }
+            let (need, connections) = match *origin {
+                Origin::World { program, first } => (
+                    need_of(&self.needs, Ends::Own { program, first }),
+                    need_of(&self.needs, Ends::Connections { program, first }),
+                ),
+                Origin::Unasked => (None, None),
+                Origin::Recorded(_) => continue,
+            };
+            let number = ends.len();
+            room.push(
+                &mut ends,
+                WorldEnd {
+                    number,
+                    need,
+                    connections,
+                },
+            );
         }
         ends
+    }
+
+    /// Whether the world has more descriptors than a process may have.
+    pub(crate) fn is_crowded(&self, room: &mut Room) -> bool {
+        let ends = self.world_ends(room).len();
+        let directories = self.world_directories(room).len();
+        ends.saturating_add(directories) > MAX_DESCRIPTORS
     }
 
     /// The directories that the world has, to do something with the tree: those of the policy, or the root to move something.
@@ -224,7 +265,7 @@ impl<'a> Draft<'a> {
         page.bytes(b" {program=\"world\", fd=[");
         let mut number = 0usize;
         for (pair, origin) in self.pairs.iter().enumerate() {
-            if matches!(origin, Origin::World { .. }) {
+            if !matches!(origin, Origin::Recorded(_)) {
                 if number > 0 {
                     page.bytes(b", ");
                 }

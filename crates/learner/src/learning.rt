@@ -311,6 +311,9 @@ fn text_learnt(
     learnt.add_head(&mut page);
     let mut draft = learnt.draft(room, None);
     draft.add_front(room, &mut page, 0);
+    if draft.is_crowded(room) {
+        return Err(LearnFault::Descriptors);
+    }
     draft.add_name_of(&mut page, 0);
     draft.add_back(room, &mut page, 0);
     text_of(room, page)

@@ -135,6 +135,9 @@ fn planned_of(
     let mut page = page;
     let mut draft = draft;
     draft.add_front(room, &mut page, program);
+    if draft.is_crowded(room) {
+        return Err(LearnFault::Descriptors);
+    }
     let mut rest = Page::new(room.alloc());
     draft.add_back(room, &mut rest, program);
     let name = match draft.programs.get(program) {
