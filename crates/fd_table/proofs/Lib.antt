@@ -2,6 +2,7 @@ pub mod Scans
 pub mod Lists
 pub mod QueueLaws
 pub mod Tables
+pub mod Padding
 pub mod Sums
 pub mod SlabLaws
 pub mod Steps

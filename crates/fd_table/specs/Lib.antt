@@ -7,5 +7,6 @@ pub mod Holders
 pub mod Kept
 pub mod OpenFiles
 pub mod Openings
+pub mod EntryViews
 pub mod StoredViews
 pub mod Views

@@ -2,23 +2,16 @@
 use Rattle.std.specs.Prelude.{◌<◌, Bool, List, map, Option, Some, None}
 use Rattle.rights.specs.Limits.{most_processes, most_descriptors}
 use Rattle.std.specs.Option.{option_map}
-use Rattle.fd_table.specs.declared.descriptors.Descriptor.{Descriptor as DescriptorCode}
 use Rattle.fd_table.specs.declared.descriptors.Description.{Description as DescriptionCode}
 use Rattle.fd_table.specs.declared.descriptions.Held.{Held as HeldCode}
 use Rattle.fd_table.specs.declared.ends.Message.{Message as MessageCode}
 use Rattle.fd_table.specs.declared.pairs.Half.{Half as HalfCode}
 use Rattle.fd_table.specs.declared.pairs.Pair.{Pair as PairCode}
 use Rattle.fd_table.specs.declared.file_tables.FileTables.{FileTables}
-use Rattle.fd_table.specs.Descriptions.{Object, Descriptor, Message, new_state}
+use Rattle.fd_table.specs.Descriptions.{Object, Message, new_state}
 use Rattle.fd_table.specs.Views.{descriptor_seen, object_seen, state_seen}
 use Rattle.fd_table.specs.Filled.{Entry}
 use Rattle.fd_table.specs.Kept.{Description, Counted, Half, Pair, Kept}
-
-abbrev pub entry_kept : Option DescriptorCode → Option Descriptor
-entry_kept o = option_map descriptor_seen o
-
-abbrev pub entries_kept : List (Option DescriptorCode) → List (Option Descriptor)
-entries_kept entries = map entry_kept entries
 
 abbrev pub description_kept : DescriptionCode → Description
 description_kept d = record { object = object_seen d.object; state = state_seen d }
@@ -46,7 +39,7 @@ abbrev pub pairs_kept : List (Option PairCode) → List (Option Pair)
 pairs_kept slots = map (option_map pair_kept) slots
 
 abbrev pub tables_kept : FileTables → Kept
-tables_kept b = record { entries = entries_kept b.entries.items; descriptions = descriptions_kept b.descriptions.slots; pairs = pairs_kept b.pairs.slots }
+tables_kept b = record { entries = b.entries; descriptions = descriptions_kept b.descriptions.slots; pairs = pairs_kept b.pairs.slots }
 
 -- the entry, if there is one, is of a table
 abbrev pub IsWithinTables : Option Entry → Type 0

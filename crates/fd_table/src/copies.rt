@@ -39,7 +39,7 @@ impl FileTables {
     pub(crate) fn copy(&self) -> Result<FileTables, Memory>
         ensures { IfOk result (λ tables. tables_kept tables ≡ tables_kept self.now) }
     {
-        let entries = Vec::from_slice(self.alloc, &self.entries)?;
+        let entries = self.entries.copy(self.alloc)?;
         let descriptions = self.descriptions.clone()?;
         let pairs = self.pairs.clone()?;
         Ok(FileTables {

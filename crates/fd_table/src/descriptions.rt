@@ -9,7 +9,8 @@ ghost use Rattle.fd_table.specs.Holders.{IsFew, IsDescriptionThere, count_in};
 ghost use Rattle.fd_table.specs.Changes.{Changed, IsHeld, described_as, ended_in, lowered, raised};
 ghost use Rattle.rights.specs.Views.{side_seen};
 ghost use Rattle.fd_table.specs.Views.{access_asked, class_seen, object_seen, state_seen};
-ghost use Rattle.fd_table.specs.StoredViews.{description_kept, descriptions_kept, entry_kept, new_description};
+ghost use Rattle.fd_table.specs.EntryViews.{entry_kept};
+ghost use Rattle.fd_table.specs.StoredViews.{description_kept, descriptions_kept, new_description};
 
 use crate::descriptors::{Access, Class, Description, Descriptor, Object};
 use crate::ends::End;

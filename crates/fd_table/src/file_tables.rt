@@ -15,13 +15,14 @@ ghost use Rattle.fd_table.specs.Changes.{front_message, passed_in};
 ghost use Rattle.fd_table.specs.Follows.{Follows, Makes, Moves, same_hand, with_taken};
 ghost use Rattle.rights.specs.Views.{side_seen};
 ghost use Rattle.fd_table.specs.Views.{access_asked, class_seen, entry_seen};
-ghost use Rattle.fd_table.specs.StoredViews.{IsWithinTables, tables_kept, entry_kept, message_kept};
+ghost use Rattle.fd_table.specs.EntryViews.{entry_kept};
+ghost use Rattle.fd_table.specs.StoredViews.{IsWithinTables, tables_kept, message_kept};
 ghost use Rattle.fd_table.specs.declared.faults.SendFault.TheVariants as fault;
 
 use crate::descriptions::{Held, describe, hold_named, opened_end, opened_node, release_one};
 use crate::descriptors::{Class, DescriptionId, Descriptor, Entry};
 use crate::ends::{End, Message, PairId};
-use crate::entries::{NUMBERS, entry_at, no_entries, set_entry};
+use crate::entries::{Entries, NUMBERS};
 use crate::faults::SendFault;
 use crate::pairs::{Pair, close_ended, make_pair, note_few, send_in, take_in};
 use file_tree::NodeId;
@@ -33,7 +34,7 @@ use std::alloc::Global;
 #[derive(Drop)]
 pub(crate) struct FileTables {
     pub(crate) alloc: Global,
-    pub(crate) entries: Vec<Option<Descriptor>>,
+    pub(crate) entries: Entries,
     pub(crate) descriptions: Slab<Held>,
     pub(crate) pairs: Slab<Pair>,
 }
@@ -44,7 +45,7 @@ impl FileTables {
         ensures kept { IfOk result (λ tables. IsKept (tables_kept tables) empty_hand) }
         ensures empty { IfOk result (λ tables. IsEmpty (open_files (tables_kept tables))) }
     {
-        let entries = no_entries(alloc)?;
+        let entries = Entries::new(alloc)?;
         Ok(FileTables {
             alloc,
             entries,
@@ -62,8 +63,8 @@ impl FileTables {
         ensures follows { Moves (tables_kept self.old) (tables_kept self.new) (λ f. with_entry f p n (entry_kept descriptor))
             (with_hand (entry_kept descriptor)) (with_hand (entry_kept result)) }
     {
-        let was = entry_at(self.entries.as_slice(), p, n);
-        set_entry(&mut self.entries, p, n, descriptor);
+        let was = self.entries.at(p, n);
+        self.entries.set(p, n, descriptor);
         was
     }
 
@@ -85,13 +86,13 @@ impl FileTables {
         requires there { IsSome (entry_at (tables_kept self.old).entries p n) }
         ensures { Moves (tables_kept self.old) (tables_kept self.new) (λ f. with_limit f p n rights.0 fcntls.0) same_hand same_hand }
     {
-        if let Some(descriptor) = entry_at(self.entries.as_slice(), p, n) {
+        if let Some(descriptor) = self.entries.at(p, n) {
             let left = Descriptor {
                 description: descriptor.description,
                 rights,
                 fcntls,
             };
-            set_entry(&mut self.entries, p, n, Some(left));
+            self.entries.set(p, n, Some(left));
         }
     }
 
@@ -156,7 +157,7 @@ impl FileTables {
         ensures { Follows (with_row (open_files (tables_kept self.old)) q ((open_files (tables_kept self.old)).table p)) (tables_kept self.new) empty_hand }
     {
         for n in 0..NUMBERS {
-            let copied = entry_at(self.entries.as_slice(), p, n);
+            let copied = self.entries.at(p, n);
             self.hold(&copied);
             self.put(q, n, copied);
         }

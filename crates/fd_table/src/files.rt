@@ -17,7 +17,6 @@ use crate::copies::sent_by;
 use crate::descriptions::{description_of, set_description};
 use crate::descriptors::{Class, Description, DescriptionId, Descriptor, Entry};
 use crate::ends::{End, Front, Message, PairId};
-use crate::entries::{entry_at, lowest_in};
 use crate::faults::SendFault;
 use crate::file_tables::FileTables;
 use crate::pairs::{front_in, is_end_open, messages_in};
@@ -72,7 +71,7 @@ impl Files {
     pub fn get(&self, p: u8, n: u8) -> Option<Descriptor>
         ensures { option_map descriptor_seen result ≡ (open_files self.now).table p n }
     {
-        entry_at(self.tables.entries.as_slice(), p, n)
+        self.tables.entries.at(p, n)
     }
 
     /// The lowest number that no descriptor of the process has, if one is free. (open(2), dup(2))
@@ -80,7 +79,7 @@ impl Files {
     pub fn lowest_free(&self, p: u8) -> Option<u8>
         ensures { result ≡ lowest_number ((open_files self.now).table p) }
     {
-        lowest_in(self.tables.entries.as_slice(), p, 0)
+        self.tables.entries.lowest(p, 0)
     }
 
     /// The lowest number above this one that no descriptor of the process has, if one is free. (socketpair(2))
@@ -89,7 +88,7 @@ impl Files {
         requires { n < 16 }
         ensures { result ≡ lowest_from (15 - n) (n + 1) ((open_files self.now).table p) }
     {
-        lowest_in(self.tables.entries.as_slice(), p, n + 1)
+        self.tables.entries.lowest(p, n + 1)
     }
 
     /// What a description is of, and its state.
@@ -151,7 +150,7 @@ impl Files {
         requires free { IsFreeAt (open_files self.old) q m }
         ensures { Alike (with_entry (open_files self.old) q m ((open_files self.old).table p n)) (open_files self.new) }
     {
-        let shared = entry_at(self.tables.entries.as_slice(), p, n);
+        let shared = self.tables.entries.at(p, n);
         self.tables.hold(&shared);
         self.tables.put(q, m, shared);
     }

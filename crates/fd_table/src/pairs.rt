@@ -10,7 +10,8 @@ ghost use Rattle.fd_table.specs.Holders.{is_idle};
 ghost use Rattle.fd_table.specs.Changes.{Changed, Ends, IsEndable, after_close, front_message, pair_new, with_closed, with_less, with_more, with_sent};
 ghost use Rattle.rights.specs.Views.{side_seen};
 ghost use Rattle.fd_table.specs.Views.{front_seen};
-ghost use Rattle.fd_table.specs.StoredViews.{description_kept, entry_kept, half_kept, message_kept, pair_kept, pairs_kept};
+ghost use Rattle.fd_table.specs.EntryViews.{entry_kept};
+ghost use Rattle.fd_table.specs.StoredViews.{description_kept, half_kept, message_kept, pair_kept, pairs_kept};
 ghost use Rattle.fd_table.specs.declared.faults.SendFault.TheVariants as fault;
 
 use crate::descriptors::{Description, Descriptor, Object};

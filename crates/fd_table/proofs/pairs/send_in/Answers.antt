@@ -2,7 +2,8 @@ use Rattle.std.proofs.Common.{ap, Some}
 use Rattle.fd_table.specs.Descriptions.{message_of}
 use Rattle.rights.specs.Views.{side_seen}
 use Rattle.fd_table.specs.Changes.{with_more}
-use Rattle.fd_table.specs.StoredViews.{entry_kept, pair_kept}
+use Rattle.fd_table.specs.EntryViews.{entry_kept}
+use Rattle.fd_table.specs.StoredViews.{pair_kept}
 use Rattle.fd_table.proofs.QueueLaws.{on_err_so, on_ok_so}
 use Rattle.fd_table.proofs.SlabLaws.{slots_same, slots_set}
 use Rattle.std.proofs.Common.{sym}

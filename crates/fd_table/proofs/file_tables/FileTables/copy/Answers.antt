@@ -7,4 +7,4 @@ pub returns : goal.returns
 returns c =
     let descriptions = slots_same _ held_kept (λ x y same. ap held_kept same) c.args.self.now.descriptions.slots _ c.in_ok-descriptions.ensures.cases.slots in
     let pairs = slots_same _ pair_kept (λ x y same. same) c.args.self.now.pairs.slots _ c.in_ok-pairs.ensures.cases.slots in
-    rw (c.in_ok-entries.ensures.items, c.deref.ensures.value, descriptions, pairs) refl
+    rw (c.in_ok-entries.ensures, descriptions, pairs) refl

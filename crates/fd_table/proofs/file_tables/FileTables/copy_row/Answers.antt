@@ -1,7 +1,8 @@
 use Rattle.std.proofs.Common.{◌∙◌, sym, arith}
 use Rattle.fd_table.specs.Kept.{entry_at, open_files}
 use Rattle.fd_table.specs.Holders.{empty_hand}
-use Rattle.fd_table.specs.StoredViews.{tables_kept, entry_kept}
+use Rattle.fd_table.specs.EntryViews.{entry_kept}
+use Rattle.fd_table.specs.StoredViews.{tables_kept}
 use Rattle.fd_table.proofs.Answering.{follows_itself}
 use Rattle.fd_table.proofs.Following.{following_first, following_last, following_next}
 use Rattle.fd_table.proofs.Tables.{no_number, source_kept}
@@ -19,8 +20,8 @@ put-requires-clause-kept c =
 pub loop-n-preserved : goal.loop-n-preserved
 loop-n-preserved c =
     let held = c.hold.ensures _ c.loop-n.invariant.follows in
-    following_next _ _ _ c.args.q c.loop-n.n (entry_at (tables_kept c.args.self.now).entries c.args.p) (entry_kept c.entry_at-copied.result) c.loop-n.invariant (c.put.ensures _ empty_hand held)
-    (rw c.as_slice.ensures.value at c.entry_at-copied.ensures ∙ source_kept _ _ c.args.p c.args.q c.loop-n.n c.loop-n.invariant.filling)
+    following_next _ _ _ c.args.q c.loop-n.n (entry_at (tables_kept c.args.self.now).entries c.args.p) (entry_kept c.at-copied.result) c.loop-n.invariant (c.put.ensures _ empty_hand held)
+    (c.at-copied.ensures ∙ source_kept _ _ c.args.p c.args.q c.loop-n.n c.loop-n.invariant.filling)
 
 pub returns : goal.returns
 unfolding open_files

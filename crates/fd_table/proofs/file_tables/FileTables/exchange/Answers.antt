@@ -1,13 +1,15 @@
-use Rattle.std.proofs.Common.{ap, ◌∙◌, ◌+◌, ◌*◌}
-use Rattle.std.proofs.Math.Seq.{map-set}
-use Rattle.fd_table.specs.StoredViews.{tables_kept, entries_kept, entry_kept}
+use Rattle.std.proofs.Common.{ap, ◌∙◌}
+use Rattle.fd_table.specs.Kept.{entry_at}
+use Rattle.fd_table.specs.EntryViews.{entry_kept}
+use Rattle.fd_table.specs.StoredViews.{tables_kept}
+use Rattle.fd_table.proofs.Tables.{entry_set}
 use Rattle.fd_table.proofs.Moving.{follows_exchange}
 use Rattle.fd_table.proofs.file_tables.FileTables.exchange.Goals as goal
 
 pub returns-clause-follows : goal.returns-clause-follows
 returns-clause-follows c = λ f hand follows.
-    let given = rw c.as_slice.ensures.value at c.entry_at-was.ensures in
-    rw given
-    (follows_exchange f (tables_kept c.args.self.now) (entries_kept c.set_entry.new.entries.items) c.args.p c.args.n (entry_kept c.args.descriptor) hand follows c.requires.process c.requires.number
-    (ap entries_kept c.set_entry.ensures.items ∙ map-set entry_kept c.args.self.now.entries.items (c.args.p * 16 + c.args.n) c.args.descriptor)
-    c.set_entry.ensures.entries)
+    let before = tables_kept c.args.self.now in
+    rw c.at-was.ensures
+    (follows_exchange f before c.set.new.self c.args.p c.args.n (entry_kept c.args.descriptor) hand follows c.requires.process c.requires.number
+    c.set.ensures
+    (ap entry_at c.set.ensures ∙ entry_set before.entries c.args.p c.args.n (entry_kept c.args.descriptor) c.requires.room c.requires.process c.requires.number))

@@ -1,5 +1,6 @@
 use Rattle.fd_table.specs.Holders.{empty_hand}
-use Rattle.fd_table.specs.StoredViews.{tables_kept, entry_kept}
+use Rattle.fd_table.specs.EntryViews.{entry_kept}
+use Rattle.fd_table.specs.StoredViews.{tables_kept}
 use Rattle.fd_table.proofs.Following.{few_counts, follows_held}
 use Rattle.fd_table.proofs.file_tables.FileTables.hold.Goals as goal
 

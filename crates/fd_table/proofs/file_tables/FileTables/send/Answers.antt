@@ -2,7 +2,8 @@ use Rattle.fd_table.specs.Descriptions.{message_of}
 use Rattle.rights.specs.Views.{side_seen}
 use Rattle.fd_table.specs.Kept.{open_files}
 use Rattle.fd_table.specs.Holders.{empty_hand}
-use Rattle.fd_table.specs.StoredViews.{tables_kept, entry_kept}
+use Rattle.fd_table.specs.EntryViews.{entry_kept}
+use Rattle.fd_table.specs.StoredViews.{tables_kept}
 use Rattle.fd_table.proofs.Answering.{follows_itself}
 use Rattle.fd_table.proofs.Following.{few_counts, follows_send}
 use Rattle.fd_table.proofs.Sides.{side_small}

@@ -3,7 +3,8 @@ use Rattle.rights.specs.Sides.{other_side}
 use Rattle.rights.specs.Views.{side_seen}
 use Rattle.fd_table.specs.Kept.{open_files}
 use Rattle.fd_table.specs.Holders.{empty_hand}
-use Rattle.fd_table.specs.StoredViews.{tables_kept, entry_kept}
+use Rattle.fd_table.specs.EntryViews.{entry_kept}
+use Rattle.fd_table.specs.StoredViews.{tables_kept}
 use Rattle.fd_table.proofs.Answering.{alike_follows, end_open, open_is, there_passed}
 use Rattle.fd_table.proofs.QueueLaws.{on_ok, on_ok_so}
 use Rattle.fd_table.proofs.Refusals.{closed_is, full_is, none_is}

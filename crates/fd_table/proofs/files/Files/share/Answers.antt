@@ -18,5 +18,5 @@ pub returns : goal.returns
 unfolding open_files
 returns c =
     let shared = c.put.ensures _ empty_hand (c.hold.ensures _ (follows_itself (tables_kept c.self.inside.tables) empty_hand c.self.invariant)) in
-    let given = rw c.as_slice.ensures.value at c.entry_at-shared.ensures in
+    let given = c.at-shared.ensures in
     rw (← c.self.view_is, ← given) (alike_follows _ (tables_kept c.put.new.self) shared)
