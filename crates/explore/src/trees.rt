@@ -18,8 +18,14 @@ pub(crate) struct TreeDigest {
     pub grants: Vec<Option<usize>>,
 }
 
-/// Adds what a node is, with its content where that counts, eight bytes at a time.
-fn add_content<T: Tree>(digest: &mut Digest, tree: &T, node: NodeId, counts: bool)
+/// Adds what a node is, with its content where that counts. The buffer has any bytes then.
+fn add_content<T: Tree>(
+    digest: &mut Digest,
+    tree: &T,
+    node: NodeId,
+    counts: bool,
+    buffer: &mut Vec<u8>,
+) -> Result<(), Memory>
     requires { node < length (T.nodes tree.now) }
 {
     digest.add(match tree.kind(node) {
@@ -27,21 +33,16 @@ fn add_content<T: Tree>(digest: &mut Digest, tree: &T, node: NodeId, counts: boo
         Kind::Dir => 2,
         Kind::Link => 3,
     });
-    if !counts {
-        return;
-    }
-    digest.add(tree.len(node) as u64);
-    let mut word: u64 = 0;
-    for at in 0..tree.len(node) {
-        if let Some(byte) = tree.byte_at(node, at) {
-            word = word << 8 | u64::from(byte);
+    if counts {
+        buffer.clear();
+        for at in 0..tree.len(node) {
+            if let Some(byte) = tree.byte_at(node, at) {
+                buffer.push(byte)?;
+            }
         }
-        if at % 8 == 7 {
-            digest.add(word);
-            word = 0;
-        }
+        digest.add_text(buffer);
     }
-    digest.add(word);
+    Ok(())
 }
 
 /// The digest of a tree. The order in which its nodes were made doesn't count, and neither do removed ones, and what no program can read.
@@ -69,11 +70,12 @@ pub(crate) fn digest_of_tree<T: Tree>(
             place.add_text(&text);
             grant = grant_holding(readable.policy, &text);
             let mut all = place;
-            add_content(&mut all, tree, node, readable.holds(&text));
+            let counts = readable.holds(&text);
+            add_content(&mut all, tree, node, counts, &mut text)?;
             whole = whole.beside(all);
         } else {
             place.add(number as u64);
-            add_content(&mut place, tree, node, true);
+            add_content(&mut place, tree, node, true, &mut text)?;
         }
         nodes.push(place)?;
         grants.push(grant)?;

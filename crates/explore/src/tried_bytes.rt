@@ -7,7 +7,7 @@ use rights::limits::{MAX_PROGRAMS, REGISTERS};
 use std::alloc::Global;
 use task::{Task, none_marked};
 
-/// The registers that may hold a byte that was read, by program, and whether such a byte may be written for others to read.
+/// The registers that may hold a byte that was read, by program, and whether such a byte may be where others can ask for it.
 #[derive(Drop)]
 struct Readers {
     programs: Vec<RegisterSet>,
@@ -31,18 +31,21 @@ fn holding_behind(
             addend: from,
         } if holding.has(from.number()) => holding.with(RegisterSet::one(register.number())),
         Instruction::Invoke {
-            call: Syscall::Read { .. },
+            call: Syscall::Read { .. } | Syscall::Lseek { .. } | Syscall::FcntlGetfl { .. },
             ..
         } if is_passed_on => holding.with(ANSWER),
         _ => holding,
     }
 }
 
-/// Whether an instruction writes a byte that was read.
+/// Whether an instruction writes a byte that was read, or leaves it where another may ask for it.
 fn passes_on(instruction: &Instruction, holding: RegisterSet) -> bool {
     match instruction {
         Instruction::Invoke {
-            call: Syscall::Write { value, .. } | Syscall::Sendfd { value, .. },
+            call: Syscall::Write { value, .. }
+            | Syscall::Sendfd { value, .. }
+            | Syscall::Lseek { offset: value, .. }
+            | Syscall::FcntlSetfl { flags: value, .. },
             ..
         } => holding.has_some(RegisterSet::of(*value)),
         _ => false,

@@ -15,9 +15,6 @@ use rights::{Call, Errno};
 use syscalls::Event;
 use texts::Page;
 
-/// How many entries are looked at whether they may come next.
-const MOST_NEXT: usize = 16;
-
 /// Whether the call at which a process stands is that of the record, given the same.
 pub(crate) fn may_show(lead: &Lead<'_>, process: u8, call: &Syscall, made: &MadeCall) -> bool {
     let Some(state) = lead.process(process) else {
@@ -263,9 +260,23 @@ fn add_at<'a>(lead: &Lead<'a>, turn: Turn, at: usize, found: &mut Leads<'a>) {
     }
 }
 
-/// Adds the runs of this turn that may come next.
-fn add_turn<'a>(lead: &Lead<'a>, turn: Turn, found: &mut Leads<'a>) {
-    for at in 0..MOST_NEXT {
+/// The place from which on no entry that is left begins before the first one ends, so that none of these may come next.
+fn end_of_next(left: &[&Entry]) -> usize {
+    let Some(first) = left.first() else {
+        return 0;
+    };
+    let mut end = 0;
+    for (at, entry) in left.iter().enumerate() {
+        if entry.span.first <= first.span.last {
+            end = at + 1;
+        }
+    }
+    end
+}
+
+/// Adds the runs of this turn that may come next, by the entries in front of a place.
+fn add_turn<'a>(lead: &Lead<'a>, turn: Turn, end: usize, found: &mut Leads<'a>) {
+    for at in 0..end {
         add_at(lead, turn, at, found);
     }
 }
@@ -281,8 +292,9 @@ pub(crate) fn add_unshown<'a>(lead: &Lead<'a>, found: &mut Leads<'a>) {
 
 /// Adds the runs that may come next, those that show a call first.
 pub(crate) fn add_branches<'a>(lead: &Lead<'a>, found: &mut Leads<'a>) {
-    add_turn(lead, Turn::Shown, found);
-    add_turn(lead, Turn::Bytes, found);
-    add_turn(lead, Turn::Skipped, found);
-    add_turn(lead, Turn::Repeated, found);
+    let end = end_of_next(&lead.standing.left);
+    add_turn(lead, Turn::Shown, end, found);
+    add_turn(lead, Turn::Bytes, end, found);
+    add_turn(lead, Turn::Skipped, end, found);
+    add_turn(lead, Turn::Repeated, end, found);
 }

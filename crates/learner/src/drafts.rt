@@ -102,21 +102,24 @@ fn add_end(page: &mut Page, number: usize, pair: usize, side: Side) {
 impl<'a> Draft<'a> {
     /// Of programs, of what they ask of the world, of a tree, and of a plan's policy, if there is one.
     pub(crate) fn new(
-        room: &Room,
+        room: &mut Room,
         programs: Vec<Program>,
         needs: Vec<Need>,
         tree: Tree,
         policy: Option<&'a Policy>,
     ) -> Draft<'a> {
-        let shares = ends_of_world(&programs) > MAX_DESCRIPTORS;
-        Draft {
+        let ends = ends_of_world(&programs);
+        let mut draft = Draft {
             programs,
             needs,
             tree,
             policy,
             pairs: room.list(),
-            shares,
-        }
+            shares: false,
+        };
+        let directories = draft.world_directories(room).len();
+        draft.shares = ends.saturating_add(directories) > MAX_DESCRIPTORS;
+        draft
     }
 
     /// Which pair an end of the world's is of.

@@ -243,7 +243,7 @@ impl Learnt {
     }
 
     /// The task that is learnt, with the policy of a plan, if it is one's.
-    pub(crate) fn draft<'a>(self, room: &Room, policy: Option<&'a Policy>) -> Draft<'a> {
+    pub(crate) fn draft<'a>(self, room: &mut Room, policy: Option<&'a Policy>) -> Draft<'a> {
         let Learnt { tree, lessons, .. } = self;
         Draft::new(room, lessons.programs, lessons.needs, tree, policy)
     }

@@ -1,7 +1,7 @@
 //! Names of one directory with which the same is done, as one name.
 
 use crate::assembly::is_writable;
-use crate::calls::{flags_of, path_place, removes_directory};
+use crate::calls::{flags_of, path_at, path_place, place_given, removes_directory};
 use crate::places::{above, behind, ends_at_directory, lies_beneath};
 use crate::remade::entry_copy;
 use crate::room::Room;
@@ -15,6 +15,8 @@ struct Name {
     place: Vec<u8>,
     /// What was done with it, each once: the call, what it was given beside, and what it came to.
     facts: Vec<Vec<u8>>,
+    /// The place among the names of the one that it led to, where it led elsewhere.
+    leads_to: Option<usize>,
     /// The place among the names of the one that stands for it.
     stand_in: Option<usize>,
 }
@@ -83,6 +85,7 @@ impl Names {
             Name {
                 place,
                 facts,
+                leads_to: None,
                 stand_in: None,
             },
         );
@@ -107,8 +110,28 @@ impl Names {
                 self.add_fact(room, path, fact);
             }
         }
-        if matches!(made.call, Call::Read | Call::Write) {
-            self.add_through(room, made);
+        match made.call {
+            Call::Read | Call::Write => self.add_through(room, made),
+            Call::Open => self.add_end(room, made),
+            _ => {}
+        }
+    }
+
+    /// Notes where an open led that led elsewhere than to the place of its path.
+    fn add_end(&mut self, room: &mut Room, made: &MadeCall) {
+        let (Some(path), Some(place)) = (path_at(made, 0), place_given(made)) else {
+            return;
+        };
+        if path == place {
+            return;
+        }
+        let fact = room.copy(b"led to");
+        self.add_fact(room, place, fact);
+        let to = self.position(place);
+        if let Some(from) = self.position(path) {
+            if let Some(name) = self.list.get_mut(from) {
+                name.leads_to = name.leads_to.or(to);
+            }
         }
     }
 
@@ -142,7 +165,17 @@ impl Names {
             && !self.has_beneath(&name.place)
     }
 
-    /// The first name that can stand for the one of a place in the list: one of the same directory with which the same is done.
+    /// Which name stands for the one that a name led to, where it led elsewhere.
+    fn end_of(&self, name: &Name) -> Option<usize> {
+        let to = name.leads_to?;
+        match self.list.get(to) {
+            Some(end) if end.stand_in.is_some() => end.stand_in,
+            _ => Some(to),
+        }
+    }
+
+    /// The first name that can stand for the one of a place in the list: one of the same directory with which the same is done, and which led to
+    /// the same.
     fn stand_in_for(&self, at: usize) -> Option<usize> {
         let name = self.list.get(at)?;
         if !self.may_be_merged(name) {
@@ -156,6 +189,7 @@ impl Names {
                 && above(&other.place) == above(&name.place)
                 && are_among(&name.facts, &other.facts)
                 && are_among(&other.facts, &name.facts)
+                && self.end_of(other) == self.end_of(name)
                 && self.may_be_merged(other)
             {
                 return Some(before);
@@ -164,12 +198,13 @@ impl Names {
         None
     }
 
-    /// Settles which names stand for others.
-    fn settle(&mut self) {
+    /// Settles which names stand for others, of those that led elsewhere, or of the rest.
+    fn settle(&mut self, elsewhere: bool) {
         for at in 0..self.list.len() {
             let stand_in = self.stand_in_for(at);
-            if let Some(name) = self.list.get_mut(at) {
-                name.stand_in = stand_in;
+            match self.list.get_mut(at) {
+                Some(name) if name.leads_to.is_some() == elsewhere => name.stand_in = stand_in,
+                _ => {}
             }
         }
     }
@@ -233,7 +268,9 @@ pub(crate) fn with_names_merged(
             }
         }
     }
-    names.settle();
+    // (what was led to comes first: by that those are told apart that led there)
+    names.settle(false);
+    names.settle(true);
     names.add_words(told);
     let mut all = room.list();
     for entries in records {

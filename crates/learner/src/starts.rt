@@ -12,13 +12,20 @@ use rights::limits::MAX_DESCRIPTORS;
 /// How many numbers are of the world where nothing else is told: input, output, errors.
 const STANDARD: u32 = 3;
 
+/// A number at which a process has what the first one began with there.
+#[derive(Clone, Copy, PartialEq, Eq)]
+struct Inherited {
+    process: u32,
+    number: u32,
+}
+
 /// What a process begins with, and the numbers that it makes later.
 #[derive(Drop)]
 struct Beginning {
     table: Table,
     made: Vec<u32>,
-    /// Those that it closes.
-    closed: Vec<u32>,
+    /// Where it and those that it forks still have input, output and errors as it began with them.
+    inherited: Vec<Inherited>,
 }
 
 /// The number of a descriptor that is told.
@@ -97,35 +104,84 @@ impl Beginning {
         }
     }
 
-    /// Notes that a number that the process begins with is of a file, if a call shows that.
-    fn add_file(&mut self, room: &mut Room, tree: &Tree, made: &MadeCall) {
+    /// Notes that what the process begins with at a number is of a file.
+    fn set_file(&mut self, room: &mut Room, tree: &Tree, made: &MadeCall, number: u32) {
+        let short = number.min(STANDARD) as u8;
+        let holding = first_holding(room, tree, made, number, short);
+        if self.is_known(number) {
+            self.table.set(number, holding);
+        } else {
+            self.table.put(room, short, number, holding);
+        }
+    }
+
+    /// Notes what a new process inherits.
+    fn fork(&mut self, room: &mut Room, process: u32, child: u32) {
+        for at in 0..self.inherited.len() {
+            match self.inherited.get(at).copied() {
+                Some(own) if own.process == process => room.push(
+                    &mut self.inherited,
+                    Inherited {
+                        process: child,
+                        number: own.number,
+                    },
+                ),
+                _ => {}
+            }
+        }
+    }
+
+    /// Notes that a process closes what it inherited.
+    fn close(&mut self, own: Inherited) {
+        for at in 0..self.inherited.len() {
+            if at < self.inherited.len() && self.inherited[at] == own {
+                self.inherited.remove(at);
+                return;
+            }
+        }
+    }
+
+    /// Notes that a number that the process begins with is of a file, if a call of its own shows that, or one of a process that inherited it.
+    fn add_file(&mut self, room: &mut Room, tree: &Tree, process: u32, made: &MadeCall) {
+        let Some(answer) = answer_of(made) else {
+            return;
+        };
+        if made.call == Call::Fork {
+            return self.fork(room, process, answer);
+        }
         let Some(number) = number_at(made, 0) else {
             return;
         };
-        if answer_of(made).is_some() && made.call == Call::Close {
-            room.push(&mut self.closed, number);
+        let own = Inherited { process, number };
+        if !self.inherited.contains(&own) {
+            return;
         }
-        if is_of_file(made) && number < STANDARD && !self.closed.contains(&number) {
-            let holding = first_holding(room, tree, made, number, number as u8);
-            self.table.set(number, holding);
+        if made.call == Call::Close {
+            self.close(own);
+        }
+        if is_of_file(made) {
+            self.set_file(room, tree, made, number);
         }
     }
 }
 
 /// What a process of a record begins with: the descriptors that its calls name before they make one of that number, and input, output and
-/// errors, which are of the world where nothing else is told.
+/// errors, which are of the world where no call of the process, or of one that inherits them, tells otherwise.
 pub(crate) fn first_table(room: &mut Room, tree: &Tree, entries: &[Entry], process: u32) -> Table {
     let mut beginning = Beginning {
         table: Table::new(room),
         made: room.list(),
-        closed: room.list(),
+        inherited: room.list(),
     };
+    for number in 0..STANDARD {
+        room.push(&mut beginning.inherited, Inherited { process, number });
+    }
     for entry in entries {
         if let Event::Called(made) = &entry.event {
             if entry.process == process {
                 beginning.add_call(room, tree, made);
-                beginning.add_file(room, tree, made);
             }
+            beginning.add_file(room, tree, entry.process, made);
         }
     }
     for number in 0..STANDARD {

@@ -3,7 +3,7 @@ use Rattle.std.proofs.Common.{◌≡◌, refl}
 use Rattle.std.specs.Fmt.{digits}
 use Rattle.std.specs.Prelude.{ℕ, true, false, List, [], ◌∷◌, ◌++◌, codes, Some, None, Ok}
 use Rattle.records.specs.Beginnings.{first_processes}
-use Rattle.records.specs.Calls.{Directory, RecordedCalls, are_calls}
+use Rattle.records.specs.Calls.{Binding, Directory, Is_end, Is_place, RecordedCalls, are_calls, end_bound}
 use Rattle.records.specs.Named.{call_of_word, error_of_word, reason_of_word}
 use Rattle.records.specs.Quoted.{effect, quoted, unquoted}
 use Rattle.records.specs.Readings.{Form, Counts, NoEnd, Behind, bindings_of, calls_of_text, choice_at, entry_of_text, entry_of_words, recorded_event_of, faulty, left_out_of, made_of, real_number_at}
@@ -257,3 +257,13 @@ first-ones = refl
 
 first-none : first_processes (by 543 maps_file ∷ []) ≡ []
 first-none = refl
+
+-- THE ENDS THAT A CALL'S DESCRIPTORS ARE OF: each is that of its own number, of its own pair and side; of a place's number, and of one that isn't told, there is none
+abbrev bound : List Binding
+bound = Is_place 3 (codes "/") ∷ Is_end 5 2 0 ∷ Is_end 6 4 1 ∷ []
+
+ends-bound : (end_bound 5 bound ≡ Some (record { pair = 2; side = 0 })) × (end_bound 6 bound ≡ Some (record { pair = 4; side = 1 }))
+ends-bound = (refl, refl)
+
+no-end-bound : (end_bound 3 bound ≡ None) × (end_bound 7 bound ≡ None)
+no-end-bound = (refl, refl)

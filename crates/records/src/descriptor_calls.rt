@@ -195,18 +195,22 @@ fn add_ioctl(run: &mut Run, through: &Through<'_>) -> Option<Reason> {
     Some(Reason::Quiet)
 }
 
-/// A change of the offset.
-fn add_offset(run: &mut Run, through: &Through<'_>) {
+/// A change of the offset. What is taken for an end has none, so where that of a device is changed this is left out.
+fn add_offset(run: &mut Run, through: &Through<'_>) -> Option<Reason> {
     if through.seen.succeeds() {
         run.known.take_for_file(through.mention);
+        if run.known.is_end(through.mention) {
+            return Some(Reason::Unknown);
+        }
     }
     run.add_with(through, Call::Lseek, 0, through.seen.outcome);
+    None
 }
 
 /// Takes a call through a descriptor. Why it is left out is told, if it is.
 fn take_through(run: &mut Run, through: &Through<'_>, form: OnDescriptor) -> Option<Reason> {
     match form {
-        OnDescriptor::Seek => add_offset(run, through),
+        OnDescriptor::Seek => return add_offset(run, through),
         OnDescriptor::Truncate => run.add_with(through, Call::Ftruncate, 0, through.seen.outcome),
         OnDescriptor::Sync => run.add_lone(through, Call::Fsync),
         OnDescriptor::Status => run.add_lone(through, Call::Fstat),
