@@ -11,8 +11,8 @@ use crate::refusals::Refusal;
 use crate::usage::NAME;
 use console::Source;
 use console::statuses::{BROKEN, DONE};
-use follow::{Followed, follow};
-use learner::{LearnFault, learn};
+use follow::{Followed, Placing, follow};
+use learner::{LearnFault, LearntTask, Renaming, learn};
 use records::{Entry, read_calls};
 use rights::Memory;
 use std::alloc::Global;
@@ -66,6 +66,56 @@ fn first_lost(alloc: Global, task: &Task, records: &[Vec<Entry>]) -> Result<Opti
     Ok(None)
 }
 
+/// Where the records' places lie in a task that was learnt.
+fn placings_of(alloc: Global, renamings: &[Renaming]) -> Result<Vec<Placing>, Memory> {
+    let mut placings = Vec::new(alloc);
+    for renaming in renamings {
+        let real = renaming.real.clone()?;
+        let model = renaming.model.clone()?;
+        placings.push(Placing { real, model })?;
+    }
+    Ok(placings)
+}
+
+/// The place of the first record for which no run of a task is found that shows its calls, with its places so.
+fn first_lost_with(
+    alloc: Global,
+    task: &Task,
+    placings: &[Placing],
+    records: &[Vec<Entry>],
+) -> Result<Option<usize>, Memory> {
+    for (at, entries) in records.iter().enumerate() {
+        let followed = follow(alloc, task, placings, entries, most_states(entries))?;
+        if matches!(followed, Followed::Parts(_)) {
+            return Ok(Some(at));
+        }
+    }
+    Ok(None)
+}
+
+/// Tells for which record no run of a task was found, and whether one is found by the words of the task's head.
+fn add_lost(
+    alloc: Global,
+    told: &mut Page,
+    task: &Task,
+    renamings: &[Renaming],
+    records: &[Vec<Entry>],
+    at: usize,
+) -> Result<(), Memory> {
+    say!(told; NAME, ": no run was found that shows the calls of file ", at.saturating_add(1));
+    if !renamings.is_empty() {
+        let placings = placings_of(alloc, renamings)?;
+        match first_lost_with(alloc, task, &placings, records)? {
+            None => told.bytes(b"; by the words of the task's head one is found for each file"),
+            Some(other) => {
+                say!(told; "; by the words of the task's head none is found for file ", other.saturating_add(1));
+            }
+        }
+    }
+    told.bytes(b"\n");
+    Ok(())
+}
+
 /// Why nothing is learnt.
 pub(crate) fn why_nothing(fault: LearnFault) -> &'static str {
     match fault {
@@ -102,20 +152,20 @@ pub(crate) fn nothing(alloc: Global, why: &str) -> Result<Answer, Memory>
 #[tactic(auto, using(crate::proofs::LearntLaws::all_followed, crate::proofs::LearntLaws::one_lost))]
 fn learnt_answer(
     alloc: Global,
-    text: Vec<u8>,
+    learnt: LearntTask,
     task: &Task,
     records: &[Vec<Entry>],
 ) -> Result<Answer, Memory>
-    requires { task_of text.items ≡ Ok task.now }
+    requires { task_of learnt.text.items ≡ Ok task.now }
     ensures { IfOk result (λ answer. WritesTask (map (λ entries. calls_seen entries.items) records.now) answer.status answer.text.items) }
 {
     let Some(at) = first_lost(alloc, task, records)? else {
-        return Ok(Answer::new(alloc, text, DONE));
+        return Ok(Answer::new(alloc, learnt.text, DONE));
     };
     let mut told = Page::new(alloc);
-    say!(&mut told; NAME, ": no run was found that shows the calls of file ", at.saturating_add(1), "; by the words of the task's head, if it has some, `follow` may find one\n");
+    add_lost(alloc, &mut told, task, &learnt.renamings, records, at)?;
     Ok(Answer {
-        text,
+        text: learnt.text,
         told: told.into_bytes()?,
         status: BROKEN,
     })
@@ -132,13 +182,13 @@ pub(crate) fn answer_learn<'a, S: Source>(
     ensures { IfOk result (λ answer. SaysLearnt (S.files files.old) (map string_bytes names.now) answer.status answer.text.items) }
 {
     let records = calls_of_files(alloc, files, names)?;
-    let text = match learn(alloc, &records) {
-        Ok(text) => text,
+    let learnt = match learn(alloc, &records) {
+        Ok(learnt) => learnt,
         Err(LearnFault::Memory) => return Err(Refusal::from(Memory)),
         Err(fault) => return Ok(nothing(alloc, why_nothing(fault))?),
     };
-    match read_task(alloc, &text) {
-        Ok(task) => Ok(learnt_answer(alloc, text, &task, &records)?),
+    match read_task(alloc, &learnt.text) {
+        Ok(task) => Ok(learnt_answer(alloc, learnt, &task, &records)?),
         Err(TaskFault::Memory) => Err(Refusal::from(Memory)),
         Err(fault) => Ok(nothing(alloc, why_refused(&fault))?),
     }

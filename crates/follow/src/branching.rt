@@ -110,25 +110,40 @@ fn add_all(bytes: &mut Page, code: &[Instruction]) {
     }
 }
 
+/// Whether an instruction hands on what a register holds.
+fn hands_on(instruction: &Instruction, register: Register) -> bool {
+    match instruction {
+        Instruction::Mov { source, .. } => *source == register,
+        Instruction::Add { addend, .. } => *addend == register,
+        Instruction::Invoke { call, .. } => match call {
+            Syscall::Write { value, .. } | Syscall::Sendfd { value, .. } => {
+                *value == Operand::Register(register)
+            }
+            _ => false,
+        },
+        _ => false,
+    }
+}
+
 /// Whether some instruction of a program hands on what a register holds.
 fn is_handed_on(code: &[Instruction], register: Register) -> bool {
-    for instruction in code {
-        let is_it = match instruction {
-            Instruction::Mov { source, .. } => *source == register,
-            Instruction::Add { addend, .. } => *addend == register,
-            Instruction::Invoke { call, .. } => match call {
-                Syscall::Write { value, .. } | Syscall::Sendfd { value, .. } => {
-                    *value == Operand::Register(register)
-                }
-                _ => false,
-            },
-            _ => false,
-        };
-        if is_it {
-            return true;
-        }
+    code.iter()
+        .any(|instruction| hands_on(instruction, register))
+}
+
+/// Whether an instruction that isn't a comparison looks at a register.
+pub(crate) fn uses(instruction: &Instruction, register: Register) -> bool {
+    match instruction {
+        Instruction::Add { register: own, .. } if *own == register => true,
+        Instruction::Invoke { call, .. } if names_descriptor(call, register) => true,
+        Instruction::Invoke {
+            call: Syscall::Lseek { offset: other, .. }
+            | Syscall::Ftruncate { len: other, .. }
+            | Syscall::FcntlSetfl { flags: other, .. },
+            ..
+        } => *other == Operand::Register(register),
+        _ => hands_on(instruction, register),
     }
-    false
 }
 
 /// Whether a call names a descriptor by what a register holds.

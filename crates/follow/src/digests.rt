@@ -1,14 +1,73 @@
 //! Short digests of runs on their way, by which those that were met are known again. Two of one digest are taken for one.
 
+use crate::branching::uses;
 use crate::leads::Lead;
 use bitflags::Flags;
 use fd_table::{Description, Descriptor, End, Files, Message, Object};
+use instruction_set::{Instruction, Register};
 use process::Process;
 use records::Entry;
-use rights::limits::{MAX_DESCRIPTORS, MAX_PROCESSES};
+use rights::Memory;
+use rights::limits::{MAX_DESCRIPTORS, MAX_PROCESSES, REGISTERS};
+use std::alloc::Global;
+use task::Task;
 
 /// How many of the entries that are left are looked at.
 const MOST_ENTRIES: usize = 32;
+
+/// Whether some instruction looks at a register, but for comparisons right behind the step by which a byte came in.
+fn is_kept(code: &[Instruction], register: Register) -> bool {
+    let mut is_new = false;
+    for instruction in code {
+        match instruction {
+            Instruction::In { register: own } => is_new = *own == register,
+            Instruction::Jeq { register: own, .. } | Instruction::Jlt { register: own, .. }
+                if *own == register => {
+                if !is_new {
+                    return true;
+                }
+            }
+            _ => {
+                if uses(instruction, register) {
+                    return true;
+                }
+                is_new = false;
+            }
+        }
+    }
+    false
+}
+
+/// The registers whose values tell two runs apart, by program.
+#[derive(Drop)]
+pub(crate) struct KeptRegisters {
+    programs: Vec<[bool; REGISTERS]>,
+}
+
+impl KeptRegisters {
+    /// Those of a task. A byte that decides nothing but where its process goes on needn't be known then.
+    pub(crate) fn new(alloc: Global, task: &Task) -> Result<KeptRegisters, Memory> {
+        let mut programs = Vec::new(alloc);
+        for named in task.programs() {
+            let mut kept = [false; REGISTERS];
+            for (number, is) in kept.iter_mut().enumerate() {
+                if let Some(register) = Register::new(number as u8) {
+                    *is = is_kept(named.program.code(), register);
+                }
+            }
+            programs.push(kept)?;
+        }
+        Ok(KeptRegisters { programs })
+    }
+
+    /// Whether the register of a number is one of them.
+    fn has(&self, program: u8, number: usize) -> bool {
+        match self.programs.get(usize::from(program)) {
+            None => true,
+            Some(kept) => kept.get(number).copied().unwrap_or(true),
+        }
+    }
+}
 
 /// A number for what a run has come to, as it is made.
 #[derive(Clone, Copy)]
@@ -27,11 +86,13 @@ impl Digest {
     }
 
     /// Adds where a process stands.
-    fn add_process(&mut self, process: &Process) {
+    fn add_process(&mut self, process: &Process, registers: &KeptRegisters) {
         self.add(u64::from(process.program) << 8 | u64::from(process.point));
         self.add(u64::from(process.alive) << 1 | u64::from(process.mode()));
-        for value in process.registers {
-            self.add(u64::from(value));
+        for (number, value) in process.registers.iter().enumerate() {
+            if registers.has(process.program, number) {
+                self.add(u64::from(*value));
+            }
         }
     }
 
@@ -103,7 +164,7 @@ pub(crate) fn digest_of(lead: &Lead<'_>) -> u128 {
         if number >= MAX_PROCESSES {
             break;
         }
-        digest.add_process(process);
+        digest.add_process(process, lead.search.registers);
         digest.add_table(lead.machine.files(), number as u8);
     }
     u128::from(digest.first) << 64 | u128::from(digest.second)

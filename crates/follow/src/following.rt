@@ -8,7 +8,7 @@ ghost use Rattle.follow.specs.Views.{placings_of, witness_of};
 
 use crate::branching::{add_branches, add_unshown};
 use crate::checking::shows;
-use crate::digests::digest_of;
+use crate::digests::{KeptRegisters, digest_of};
 use crate::leads::{Lead, Leads, Search};
 use crate::numbers::{ProcessPair, model_of};
 use crate::places::Placing;
@@ -302,6 +302,22 @@ fn checked<'a>(
     Ok(Followed::Parts(parted_of(trail, search, entries)))
 }
 
+/// What a search comes to.
+fn searched<'a>(search: &Search<'a>, entries: &'a [Entry], bound: usize) -> Result<Followed, Memory>
+    ensures { IfOk result (IsFollowed search.now.task.now (placings_of search.now.placings.now) (calls_seen entries.now)) }
+{
+    let alloc = search.alloc;
+    let mut trail = Trail {
+        leads: Leads::new(alloc),
+        way: no_witness(alloc),
+        met: IndexSet::new(alloc),
+        fewest: entries.len(),
+        first_left: None,
+        points: Vec::new(alloc),
+    };
+    checked(&mut trail, search, entries, bound)
+}
+
 /// Searches a run of the task that shows the calls of a record, over at most so many states. The processes of the record that none of its
 /// calls makes are those with which the task starts, in this order, but for those of a program `world`. What is found is checked by
 /// `shows`. Want of memory is the only error.
@@ -314,19 +330,13 @@ pub fn follow<'a>(
 ) -> Result<Followed, Memory>
     ensures { IfOk result (IsFollowed task.now (placings_of placings.now) (calls_seen entries.now)) }
 {
+    let registers = KeptRegisters::new(alloc, task)?;
     let search = Search {
         alloc,
         task,
         placings,
         limited: has_limiting(entries),
+        registers: &registers,
     };
-    let mut trail = Trail {
-        leads: Leads::new(alloc),
-        way: no_witness(alloc),
-        met: IndexSet::new(alloc),
-        fewest: entries.len(),
-        first_left: None,
-        points: Vec::new(alloc),
-    };
-    checked(&mut trail, &search, entries, bound)
+    searched(&search, entries, bound)
 }

@@ -1,6 +1,7 @@
 //! A run on its way, and how far it has come in showing a record.
 
 use crate::checking::{code_of, process_at, watched_step};
+use crate::digests::KeptRegisters;
 use crate::numbers::{ProcessPair, model_of};
 use crate::outcomes::Seen;
 use crate::places::Placing;
@@ -36,6 +37,8 @@ pub(crate) struct Search<'a> {
     pub placings: &'a [Placing],
     /// The record has calls of capability mode.
     pub limited: bool,
+    /// The registers whose values tell two runs apart.
+    pub registers: &'a KeptRegisters,
 }
 
 /// A run on its way: how far it has come, and how. Where memory was refused for a step of it, that is noted, and the step doesn't count.

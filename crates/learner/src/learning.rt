@@ -5,7 +5,7 @@ use crate::codes::code_of;
 use crate::drafts::{Draft, Program};
 use crate::evidence::{add_evidence, add_links};
 use crate::late_starts::begun_late;
-use crate::merging::with_names_merged;
+use crate::merging::{Renaming, with_names_merged};
 use crate::needs::Need;
 use crate::policies::Policy;
 use crate::readings::offsets_of;
@@ -319,27 +319,57 @@ fn text_learnt(
     text_of(room, page)
 }
 
-/// The text of a task, of the calls of runs of one program: the tree, the processes and the programs that they show. Where a program would
+/// A task that was learnt.
+#[derive(Drop)]
+pub struct LearntTask {
+    pub text: Vec<u8>,
+    /// The names of the records that others stand for in it.
+    pub renamings: Vec<Renaming>,
+}
+
+/// What is learnt of records that are changed as is told, with names of one directory as one where that is asked.
+fn learnt_named(
+    room: &mut Room,
+    records: &[Vec<Entry>],
+    mut told: Page,
+    is_merged: bool,
+) -> Result<LearntTask, LearnFault> {
+    if is_merged {
+        let merged = with_names_merged(room, records, &mut told);
+        let text = text_learnt(room, &merged.records, &told)?;
+        let renamings = merged.renamings;
+        return Ok(LearntTask { text, renamings });
+    }
+    let text = text_learnt(room, records, &told)?;
+    let renamings = room.list();
+    Ok(LearntTask { text, renamings })
+}
+
+/// What is learnt of records, with names of one directory as one, and of processes that begin late, where that is asked.
+fn learnt_by(
+    room: &mut Room,
+    records: &[Vec<Entry>],
+    is_late: bool,
+    is_merged: bool,
+) -> Result<LearntTask, LearnFault> {
+    let mut told = Page::new(room.alloc());
+    if is_late {
+        let late = begun_late(room, records, &mut told);
+        return learnt_named(room, &late, told, is_merged);
+    }
+    learnt_named(room, records, told, is_merged)
+}
+
+/// A task, of the calls of runs of one program: the tree, the processes and the programs that they show. Where a program would
 /// have more than 256 instructions, names of one directory with which the same is done are one; where that is still so, processes begin behind
 /// the last program that they went on as, and at last both. Nothing is claimed of it: whether the records follow it is to be asked. (own)
-pub fn learn(alloc: Global, records: &[Vec<Entry>]) -> Result<Vec<u8>, LearnFault> {
+pub fn learn(alloc: Global, records: &[Vec<Entry>]) -> Result<LearntTask, LearnFault> {
     let mut room = Room::new(alloc);
-    match text_learnt(&mut room, records, &Page::new(alloc)) {
-        Err(LearnFault::Points) => {}
-        learnt => return learnt,
+    for (is_late, is_merged) in [(false, false), (false, true), (true, false)] {
+        match learnt_by(&mut room, records, is_late, is_merged) {
+            Err(LearnFault::Points) => {}
+            learnt => return learnt,
+        }
     }
-    let mut told = Page::new(alloc);
-    let merged = with_names_merged(&mut room, records, &mut told);
-    match text_learnt(&mut room, &merged, &told) {
-        Err(LearnFault::Points) => {}
-        learnt => return learnt,
-    }
-    let mut told = Page::new(alloc);
-    let late = begun_late(&mut room, records, &mut told);
-    match text_learnt(&mut room, &late, &told) {
-        Err(LearnFault::Points) => {}
-        learnt => return learnt,
-    }
-    let merged = with_names_merged(&mut room, &late, &mut told);
-    text_learnt(&mut room, &merged, &told)
+    learnt_by(&mut room, records, true, true)
 }

@@ -32,6 +32,7 @@ mod tables;
 mod trees;
 mod worlds;
 
-pub use learning::{LearnFault, learn};
+pub use learning::{LearnFault, LearntTask, learn};
+pub use merging::Renaming;
 pub use names_left::add_names_left;
 pub use planning::{Planned, plan};

@@ -2,12 +2,21 @@
 
 use crate::assembly::is_writable;
 use crate::calls::{flags_of, path_at, path_place, place_given, removes_directory};
+use crate::learning::tree_of;
 use crate::places::{above, behind, ends_at_directory, lies_beneath};
 use crate::remade::entry_copy;
 use crate::room::Room;
+use crate::trees::Tree;
 use records::{Binding, Entry, Event, MadeCall, Operand, Outcome, add_flags};
 use rights::Call;
 use texts::{Page, Say, parts_of, say};
+
+/// What lies at the place `real` of the records stands at the place `model` of what is learnt.
+#[derive(Drop)]
+pub struct Renaming {
+    pub real: Vec<u8>,
+    pub model: Vec<u8>,
+}
 
 /// A name, by its place.
 #[derive(Drop)]
@@ -15,6 +24,8 @@ struct Name {
     place: Vec<u8>,
     /// What was done with it, each once: the call, what it was given beside, and what it came to.
     facts: Vec<Vec<u8>>,
+    /// How many bytes it has, as far as is known.
+    length: usize,
     /// The place among the names of the one that it led to, where it led elsewhere.
     leads_to: Option<usize>,
     /// The place among the names of the one that stands for it.
@@ -85,6 +96,7 @@ impl Names {
             Name {
                 place,
                 facts,
+                length: 0,
                 leads_to: None,
                 stand_in: None,
             },
@@ -147,6 +159,13 @@ impl Names {
         }
     }
 
+    /// Notes how many bytes they have.
+    fn measure(&mut self, tree: &Tree) {
+        for name in self.list.iter_mut() {
+            name.length = tree.length_of(&name.place);
+        }
+    }
+
     /// Whether something is used that lies beneath a place.
     fn has_beneath(&self, place: &[u8]) -> bool {
         for name in &self.list {
@@ -174,8 +193,8 @@ impl Names {
         }
     }
 
-    /// The first name that can stand for the one of a place in the list: one of the same directory with which the same is done, and which led to
-    /// the same.
+    /// The first name that can stand for the one of a place in the list: one of the same directory with which the same is done, of as many bytes,
+    /// and which led to the same.
     fn stand_in_for(&self, at: usize) -> Option<usize> {
         let name = self.list.get(at)?;
         if !self.may_be_merged(name) {
@@ -186,6 +205,7 @@ impl Names {
                 break;
             }
             if other.stand_in.is_none()
+                && other.length == name.length
                 && above(&other.place) == above(&name.place)
                 && are_among(&name.facts, &other.facts)
                 && are_among(&other.facts, &name.facts)
@@ -237,21 +257,36 @@ impl Names {
         }
     }
 
-    /// Tells which names are one with others, as words of `follow`.
-    fn add_words(&self, page: &mut Page) {
-        let mut is_first = true;
+    /// Which names are one with others.
+    fn renamings(&self, room: &mut Room) -> Vec<Renaming> {
+        let mut renamings = room.list();
         for name in &self.list {
             if let Some(place) = self.stand_in_of(name) {
-                if is_first {
-                    page.bytes(
-                        b"# Names of one directory that are one here, as words for `capwhy follow`:\n",
-                    );
-                    is_first = false;
-                }
-                say!(page; "#  ", name.place.as_slice(), "=", place, "\n");
+                let real = room.copy(&name.place);
+                let model = room.copy(place);
+                room.push(&mut renamings, Renaming { real, model });
             }
         }
+        renamings
     }
+}
+
+/// Tells which names are one with others, as words of `follow`.
+fn add_words(page: &mut Page, renamings: &[Renaming]) {
+    if renamings.is_empty() {
+        return;
+    }
+    page.bytes(b"# Names of one directory that are one here, as words for `capwhy follow`:\n");
+    for renaming in renamings {
+        say!(page; "#  ", renaming.real.as_slice(), "=", renaming.model.as_slice(), "\n");
+    }
+}
+
+/// Records in which some names are one, and which these are.
+#[derive(Drop)]
+pub(crate) struct Merged {
+    pub records: Vec<Vec<Entry>>,
+    pub renamings: Vec<Renaming>,
 }
 
 /// The entries of records with one name for those of one directory with which the same is done. Which those are is told on a page.
@@ -259,7 +294,7 @@ pub(crate) fn with_names_merged(
     room: &mut Room,
     records: &[Vec<Entry>],
     told: &mut Page,
-) -> Vec<Vec<Entry>> {
+) -> Merged {
     let mut names = Names { list: room.list() };
     for entries in records {
         for entry in entries {
@@ -268,10 +303,13 @@ pub(crate) fn with_names_merged(
             }
         }
     }
+    let tree = tree_of(room, records, None);
+    names.measure(&tree);
     // (what was led to comes first: by that those are told apart that led there)
     names.settle(false);
     names.settle(true);
-    names.add_words(told);
+    let renamings = names.renamings(room);
+    add_words(told, &renamings);
     let mut all = room.list();
     for entries in records {
         let mut merged = room.list();
@@ -284,5 +322,8 @@ pub(crate) fn with_names_merged(
         }
         room.push(&mut all, merged);
     }
-    all
+    Merged {
+        records: all,
+        renamings,
+    }
 }

@@ -214,5 +214,5 @@ pub fn plan(alloc: Global, records: &[Vec<Entry>], line: u32) -> Result<Planned,
         planned => return planned,
     }
     let merged = with_names_merged(&mut room, &ordered, &mut told);
-    plan_ordered(&mut room, &merged, line, &told)
+    plan_ordered(&mut room, &merged.records, line, &told)
 }
