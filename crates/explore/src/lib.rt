@@ -21,7 +21,6 @@ mod policies;
 mod readable;
 mod register_sets;
 mod runners;
-mod shared_trees;
 mod shrinking;
 mod states;
 pub mod taking_over;

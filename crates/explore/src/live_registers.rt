@@ -1,59 +1,39 @@
 //! Which registers a program may still look at.
 
 use crate::register_sets::{ANSWER, ENDS, ERROR, NONE, RegisterSet};
-use instruction_set::{Instruction, Syscall, successors_at};
+use instruction_set::{Instruction, Register, Syscall, successors_at};
 use rights::Memory;
-use rights::limits::MAX_INSTRUCTIONS;
+use rights::limits::{MAX_INSTRUCTIONS, REGISTERS};
 use std::alloc::Global;
 use task::Task;
 
-/// The registers that a call is given.
-fn given(call: &Syscall) -> RegisterSet {
-    let first = match call.first_operand() {
-        None => NONE,
-        Some(operand) => RegisterSet::of(operand),
-    };
-    match call {
-        Syscall::Write { value: other, .. }
-        | Syscall::Lseek { offset: other, .. }
-        | Syscall::Ftruncate { len: other, .. }
-        | Syscall::FcntlSetfl { flags: other, .. }
-        | Syscall::Renameat { target: other, .. } => first.with(RegisterSet::of(*other)),
-        Syscall::Sendfd { sent, value, .. } => first
-            .with(RegisterSet::of(*sent))
-            .with(RegisterSet::of(*value)),
-        _ => first,
+/// The registers that an instruction looks at.
+fn looked_at(instruction: &Instruction) -> RegisterSet {
+    let mut found = NONE;
+    for number in 0..REGISTERS as u8 {
+        if let Some(register) = Register::new(number) {
+            if instruction.looks_at(register) {
+                found = found.with(RegisterSet::one(number));
+            }
+        }
     }
+    found
 }
 
 /// The registers that may be looked at from an instruction on, by those that may be where it goes on to the next one, and where it jumps.
 fn live_before(instruction: &Instruction, next: RegisterSet, other: RegisterSet) -> RegisterSet {
-    match instruction {
-        Instruction::Set { register, .. } | Instruction::In { register } => {
-            next.without(RegisterSet::one(register.number()))
-        }
-        Instruction::Mov { register, source } => next
-            .without(RegisterSet::one(register.number()))
-            .with(RegisterSet::one(source.number())),
-        Instruction::Add { register, addend } => next
-            .with(RegisterSet::one(register.number()))
-            .with(RegisterSet::one(addend.number())),
-        Instruction::Jmp { .. } => other,
-        Instruction::Jeq { register, .. } | Instruction::Jlt { register, .. } => {
-            next.with(other).with(RegisterSet::one(register.number()))
-        }
-        Instruction::Halt => NONE,
-        Instruction::Invoke { call, .. } => {
-            let answers = if matches!(call, Syscall::Socketpair) {
-                ENDS
-            } else {
-                ANSWER
-            };
-            next.without(answers)
-                .with(other.without(ERROR))
-                .with(given(call))
-        }
-    }
+    let later = match instruction {
+        Instruction::Set { register, .. }
+        | Instruction::In { register }
+        | Instruction::Mov { register, .. } => { next.without(RegisterSet::one(register.number())) }
+        Instruction::Invoke {
+            call: Syscall::Socketpair,
+            ..
+        } => next.without(ENDS).with(other.without(ERROR)),
+        Instruction::Invoke { .. } => next.without(ANSWER).with(other.without(ERROR)),
+        _ => next.with(other),
+    };
+    later.with(looked_at(instruction))
 }
 
 /// The registers of a point, or none where there is no point.

@@ -41,13 +41,10 @@ fn holding_behind(
 /// Whether an instruction writes a byte that was read, or leaves it where another may ask for it.
 fn passes_on(instruction: &Instruction, holding: RegisterSet) -> bool {
     match instruction {
-        Instruction::Invoke {
-            call: Syscall::Write { value, .. }
-            | Syscall::Sendfd { value, .. }
-            | Syscall::Lseek { offset: value, .. }
-            | Syscall::FcntlSetfl { flags: value, .. },
-            ..
-        } => holding.has_some(RegisterSet::of(*value)),
+        Instruction::Invoke { call, .. } => match call.value_operand() {
+            None => false,
+            Some(value) => holding.has_some(RegisterSet::of(value)),
+        },
         _ => false,
     }
 }

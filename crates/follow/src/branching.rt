@@ -131,29 +131,10 @@ fn is_handed_on(code: &[Instruction], register: Register) -> bool {
         .any(|instruction| hands_on(instruction, register))
 }
 
-/// Whether an instruction that isn't a comparison looks at a register.
-pub(crate) fn uses(instruction: &Instruction, register: Register) -> bool {
-    match instruction {
-        Instruction::Add { register: own, .. } if *own == register => true,
-        Instruction::Invoke { call, .. } if names_descriptor(call, register) => true,
-        Instruction::Invoke {
-            call: Syscall::Lseek { offset: other, .. }
-            | Syscall::Ftruncate { len: other, .. }
-            | Syscall::FcntlSetfl { flags: other, .. },
-            ..
-        } => *other == Operand::Register(register),
-        _ => hands_on(instruction, register),
-    }
-}
-
 /// Whether a call names a descriptor by what a register holds.
 fn names_descriptor(call: &Syscall, register: Register) -> bool {
-    let own = Operand::Register(register);
-    match call {
-        Syscall::Sendfd { sent: other, .. } | Syscall::Renameat { target: other, .. }
-            if *other == own => true,
-        _ => call.first_operand() == Some(own),
-    }
+    let own = Some(Operand::Register(register));
+    call.first_operand() == own || call.second_operand() == own
 }
 
 /// Adds the numbers that a descriptor may have, where some call of a program names one by what a register holds.

@@ -25,6 +25,7 @@ use crate::outcomes::Seen;
 use crate::places::Placing;
 use crate::standing::{Setting, Standing, after_skip, after_step, has_limiting};
 use crate::witnesses::{Move, Witness};
+use file_tree::Tree;
 use instruction_set::{Instruction, Syscall};
 use link_tree::LinkTree;
 use process::Process;
@@ -129,9 +130,9 @@ fn seen_by<'t>(before: Option<Before<'t>>, acted: Option<&Acted>, second: u32) -
 }
 
 /// One step of the task's machine, with what is seen of it.
-pub(crate) fn watched_step<'t>(
+pub(crate) fn watched_step<'t, T: Tree>(
     task: &'t Task,
-    machine: &mut Machine<'_, LinkTree>,
+    machine: &mut Machine<'_, T>,
     event: Event,
 ) -> Result<Watched<'t>, Stop>
     ensures step { IfOk result (λ watched. StepsMachine (programs_of_plan machine.old.plan) (machine_world machine.old) (event_of event)

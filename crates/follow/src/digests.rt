@@ -1,10 +1,9 @@
 //! Short digests of runs on their way, by which those that were met are known again. Two of one digest are taken for one.
 
-use crate::branching::uses;
 use crate::leads::Lead;
 use bitflags::Flags;
 use fd_table::{Description, Descriptor, End, Files, Message, Object};
-use instruction_set::{Instruction, Register};
+use instruction_set::{Instruction, Path, Register, Syscall};
 use process::Process;
 use records::Entry;
 use rights::Memory;
@@ -28,7 +27,7 @@ fn is_kept(code: &[Instruction], register: Register) -> bool {
                 }
             }
             _ => {
-                if uses(instruction, register) {
+                if instruction.looks_at(register) {
                     return true;
                 }
                 is_new = false;
@@ -66,6 +65,30 @@ impl KeptRegisters {
             None => true,
             Some(kept) => kept.get(number).copied().unwrap_or(true),
         }
+    }
+}
+
+/// A number for a name, by a path to it.
+fn mark_of(path: &Path) -> u64 {
+    let mut mark: u64 = 0xCBF2_9CE4_8422_2325;
+    for byte in path.bytes() {
+        mark = (mark ^ u64::from(*byte)).wrapping_mul(0x0000_0100_0000_01B3);
+    }
+    mark
+}
+
+/// A number for the names that a call makes or removes where it succeeds, by its paths. Of two such calls for one name it comes to nothing.
+pub(crate) fn names_changed(call: &Syscall) -> u64 {
+    match call {
+        Syscall::Open { path, flags } | Syscall::Openat { path, flags, .. } if flags.create() => {
+            mark_of(path)
+        }
+        Syscall::Mkdir { path }
+        | Syscall::Mkdirat { path, .. }
+        | Syscall::Unlink { path, .. }
+        | Syscall::Unlinkat { path, .. } => mark_of(path),
+        Syscall::Renameat { path, new_path, .. } => mark_of(path) ^ mark_of(new_path),
+        _ => 0,
     }
 }
 
@@ -160,6 +183,7 @@ pub(crate) fn digest_of(lead: &Lead<'_>) -> u128 {
         second: 0x1319_8A2E_0370_7344,
     };
     digest.add_left(&lead.standing.left);
+    digest.add(lead.names);
     for (number, process) in lead.machine.processes().iter().enumerate() {
         if number >= MAX_PROCESSES {
             break;

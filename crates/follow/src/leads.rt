@@ -1,7 +1,7 @@
 //! A run on its way, and how far it has come in showing a record.
 
 use crate::checking::{code_of, process_at, watched_step};
-use crate::digests::KeptRegisters;
+use crate::digests::{KeptRegisters, names_changed};
 use crate::numbers::{ProcessPair, model_of};
 use crate::outcomes::Seen;
 use crate::places::Placing;
@@ -9,11 +9,11 @@ use crate::standing::{Setting, Standing, after_skip, after_step};
 use crate::streams::{Sent, end_written};
 use crate::witnesses::Move;
 use instruction_set::{Instruction, Syscall};
-use link_tree::LinkTree;
 use process::Process;
 use records::{Entry, Event as Recorded, Outcome};
 use rights::limits::MAX_PROCESSES;
 use rights::{Call, Memory};
+use shared_tree::SharedTree;
 use simulator::{LineResult, Machine};
 use std::alloc::Global;
 use std::marker::Model;
@@ -45,11 +45,13 @@ pub(crate) struct Search<'a> {
 #[derive(Drop)]
 pub(crate) struct Lead<'a> {
     pub search: Search<'a>,
-    pub machine: Machine<'a, LinkTree>,
+    pub machine: Machine<'a, SharedTree>,
     pub standing: Standing<'a>,
     pub pairs: Vec<ProcessPair>,
     /// Through which ends of the record's its processes have written last.
     pub sent: Vec<Sent>,
+    /// A number for the names that were made or removed.
+    pub names: u64,
     /// The last moves. So many of the way stand before them.
     pub moves: Vec<Move>,
     pub base: usize,
@@ -133,13 +135,14 @@ impl<'a> Leads<'a> {
         standing: Standing<'a>,
         pairs: Vec<ProcessPair>,
     ) {
-        match Machine::<'_, LinkTree>::start(search.alloc, search.task) {
+        match Machine::<'_, SharedTree>::start(search.alloc, search.task) {
             Ok(machine) => self.push(Lead {
                 search: *search,
                 machine,
                 standing,
                 pairs,
                 sent: Vec::new(search.alloc),
+                names: 0,
                 moves: Vec::new(search.alloc),
                 base: 0,
                 is_short: false,
@@ -261,6 +264,7 @@ impl<'a> Lead<'a> {
             standing,
             pairs: copied(alloc, &self.pairs, &mut is_short),
             sent: copied(alloc, &self.sent, &mut is_short),
+            names: self.names,
             moves: copied(alloc, &self.moves, &mut is_short),
             base: self.base,
             is_short,
@@ -364,11 +368,13 @@ impl<'a> Lead<'a> {
             Some(&seen),
             shows,
         );
-        if self.note(may, Move::Step { event, shows }) {
-            Some(seen.outcome)
-        } else {
-            None
+        if !self.note(may, Move::Step { event, shows }) {
+            return None;
         }
+        if let (Some(call), LineResult::Value(_)) = (seen.call, seen.outcome) {
+            self.names = self.names ^ names_changed(call);
+        }
+        Some(seen.outcome)
     }
 
     /// Runs a process on until its call has come back, which is to show the entry of a place, if one. Whether it does is told.

@@ -45,6 +45,21 @@ first_operand (Cap_rights_limit x rights) = Some x
 first_operand (Cap_fcntls_limit x commands) = Some x
 first_operand _ = None
 
+-- the operand of the second of its two descriptors
+abbrev pub second_operand : Syscall → Option Operand
+second_operand (Sendfd x y v) = Some y
+second_operand (Renameat x from y to) = Some y
+second_operand _ = None
+
+-- the operand that is no descriptor: a byte, an offset, a length or flags
+abbrev pub value_operand : Syscall → Option Operand
+value_operand (Write x v) = Some v
+value_operand (Sendfd x y v) = Some v
+value_operand (Lseek x v) = Some v
+value_operand (Ftruncate x v) = Some v
+value_operand (Fcntl_setfl x v) = Some v
+value_operand _ = None
+
 -- whether it takes room that the kernel may refuse (ENFILE, ENOSPC, EAGAIN)
 abbrev pub may_be_refused : Syscall → Bool
 may_be_refused (Open path f) = true

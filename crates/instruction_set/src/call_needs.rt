@@ -2,7 +2,7 @@
 //! may refuse it.
 
 ghost use Rattle.std.specs.Prelude.{◌≡◌, option_map};
-ghost use Rattle.instruction_set.specs.CallNeeds.{command_of, first_operand, first_rights, flags_in, may_be_refused};
+ghost use Rattle.instruction_set.specs.CallNeeds.{command_of, first_operand, first_rights, flags_in, may_be_refused, second_operand, value_operand};
 ghost use Rattle.instruction_set.specs.Views.{operand_of, syscall_of};
 
 use crate::instructions::Syscall;
@@ -77,6 +77,32 @@ impl Syscall {
             Syscall::Open { .. } | Syscall::Stat { .. } => None,
             Syscall::Mkdir { .. } | Syscall::Unlink { .. } => None,
             Syscall::CapEnter | Syscall::CapGetmode | Syscall::Socketpair | Syscall::Fork => None,
+        }
+    }
+
+    /// The operand of the second of its two descriptors; `None` where it hasn't two.
+    pub fn second_operand(&self) -> Option<Operand>
+        ensures { option_map operand_of result ≡ second_operand (syscall_of self.now) }
+    {
+        match self {
+            Syscall::Sendfd { sent: second, .. } | Syscall::Renameat { target: second, .. } => {
+                Some(*second)
+            }
+            _ => None,
+        }
+    }
+
+    /// The operand that is no descriptor: a byte, an offset, a length or flags; `None` where it has none.
+    pub fn value_operand(&self) -> Option<Operand>
+        ensures { option_map operand_of result ≡ value_operand (syscall_of self.now) }
+    {
+        match self {
+            Syscall::Write { value, .. }
+            | Syscall::Sendfd { value, .. }
+            | Syscall::Lseek { offset: value, .. }
+            | Syscall::Ftruncate { len: value, .. }
+            | Syscall::FcntlSetfl { flags: value, .. } => Some(*value),
+            _ => None,
         }
     }
 

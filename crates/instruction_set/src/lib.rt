@@ -4,6 +4,7 @@
 pub mod call_needs;
 mod copies;
 pub mod instructions;
+pub mod looking;
 pub mod operands;
 pub mod programs;
 pub mod successors;

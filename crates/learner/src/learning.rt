@@ -327,7 +327,7 @@ pub struct LearntTask {
     pub renamings: Vec<Renaming>,
 }
 
-/// What is learnt of records that are changed as is told, with names of one directory as one where that is asked.
+/// What is learnt of records that are changed as is told, with names as one with which the same is done, where that is asked.
 fn learnt_named(
     room: &mut Room,
     records: &[Vec<Entry>],
@@ -345,7 +345,7 @@ fn learnt_named(
     Ok(LearntTask { text, renamings })
 }
 
-/// What is learnt of records, with names of one directory as one, and of processes that begin late, where that is asked.
+/// What is learnt of records, with names as one with which the same is done, and of processes that begin late, where that is asked.
 fn learnt_by(
     room: &mut Room,
     records: &[Vec<Entry>],
@@ -361,7 +361,7 @@ fn learnt_by(
 }
 
 /// A task, of the calls of runs of one program: the tree, the processes and the programs that they show. Where a program would
-/// have more than 256 instructions, names of one directory with which the same is done are one; where that is still so, processes begin behind
+/// have more than 256 instructions, names with which the same is done are one, of one directory or looked for in vain; where that is still so, processes begin behind
 /// the last program that they went on as, and at last both. Nothing is claimed of it: whether the records follow it is to be asked. (own)
 pub fn learn(alloc: Global, records: &[Vec<Entry>]) -> Result<LearntTask, LearnFault> {
     let mut room = Room::new(alloc);

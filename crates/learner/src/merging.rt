@@ -1,9 +1,9 @@
-//! Names of one directory with which the same is done, as one name.
+//! Names with which the same is done, as one name: those of one directory, and one that was looked for in several in vain.
 
 use crate::assembly::is_writable;
 use crate::calls::{flags_of, path_at, path_place, place_given, removes_directory};
 use crate::learning::tree_of;
-use crate::places::{above, behind, ends_at_directory, lies_beneath};
+use crate::places::{above, behind, ends_at_directory, last_name, lies_beneath};
 use crate::remade::entry_copy;
 use crate::room::Room;
 use crate::trees::Tree;
@@ -30,6 +30,19 @@ struct Name {
     leads_to: Option<usize>,
     /// The place among the names of the one that stands for it.
     stand_in: Option<usize>,
+}
+
+impl Name {
+    /// Whether it was looked for, and never there.
+    fn is_missing(&self) -> bool {
+        self.facts.iter().all(|fact| fact.ends_with(b" ENOENT"))
+    }
+
+    /// Whether both are of one directory, or one name that was looked for in two and never there.
+    fn is_beside(&self, other: &Name) -> bool {
+        above(&self.place) == above(&other.place)
+            || (self.is_missing() && last_name(&self.place) == last_name(&other.place))
+    }
 }
 
 /// The names that records use by their places.
@@ -166,14 +179,12 @@ impl Names {
         }
     }
 
-    /// Whether something is used that lies beneath a place.
-    fn has_beneath(&self, place: &[u8]) -> bool {
-        for name in &self.list {
-            if lies_beneath(place, &name.place) {
-                return true;
-            }
-        }
-        false
+    /// Whether something is used that lies beneath a name, other than what never was there beneath one that never was.
+    fn has_beneath(&self, name: &Name) -> bool {
+        let is_missing = name.is_missing();
+        self.list.iter().any(|other| {
+            lies_beneath(&name.place, &other.place) && !(is_missing && other.is_missing())
+        })
     }
 
     /// Whether a name may be one with others: it is a place that a task can have, with a name of its own, and nothing is used beneath it.
@@ -181,7 +192,7 @@ impl Names {
         name.place.first() == Some(&b'/')
             && !ends_at_directory(&name.place)
             && is_writable(&name.place)
-            && !self.has_beneath(&name.place)
+            && !self.has_beneath(name)
     }
 
     /// Which name stands for the one that a name led to, where it led elsewhere.
@@ -193,8 +204,8 @@ impl Names {
         }
     }
 
-    /// The first name that can stand for the one of a place in the list: one of the same directory with which the same is done, of as many bytes,
-    /// and which led to the same.
+    /// The first name that can stand for the one of a place in the list: one beside it with which the same is done, of as many bytes, and which led
+    /// to the same.
     fn stand_in_for(&self, at: usize) -> Option<usize> {
         let name = self.list.get(at)?;
         if !self.may_be_merged(name) {
@@ -206,7 +217,7 @@ impl Names {
             }
             if other.stand_in.is_none()
                 && other.length == name.length
-                && above(&other.place) == above(&name.place)
+                && other.is_beside(name)
                 && are_among(&name.facts, &other.facts)
                 && are_among(&other.facts, &name.facts)
                 && self.end_of(other) == self.end_of(name)
@@ -257,14 +268,34 @@ impl Names {
         }
     }
 
+    /// Whether a name lies beneath one for which another one stands.
+    fn is_beneath_merged(&self, name: &Name) -> bool {
+        self.list.iter().any(|other| other.stand_in.is_some()
+            && lies_beneath(&other.place, &name.place))
+    }
+
+    /// The place that the words of `follow` tell of a name: that of the one that stands for it, or its own, if else they would tell another one.
+    fn told_place<'n>(&'n self, name: &'n Name) -> Option<&'n [u8]> {
+        match self.stand_in_of(name) {
+            Some(place) => Some(place),
+            None if self.is_beneath_merged(name) => Some(name.place.as_slice()),
+            None => None,
+        }
+    }
+
     /// Which names are one with others.
     fn renamings(&self, room: &mut Room) -> Vec<Renaming> {
-        let mut renamings = room.list();
+        let mut renamings: Vec<Renaming> = room.list();
         for name in &self.list {
-            if let Some(place) = self.stand_in_of(name) {
+            if let Some(place) = self.told_place(name) {
                 let real = room.copy(&name.place);
                 let model = room.copy(place);
-                room.push(&mut renamings, Renaming { real, model });
+                // (the first word that fits a path counts, so one of what lies beneath comes first)
+                let found = renamings
+                    .iter()
+                    .position(|above| lies_beneath(&above.real, &real));
+                let at = found.unwrap_or(renamings.len());
+                room.insert(&mut renamings, at, Renaming { real, model });
             }
         }
         renamings
@@ -276,7 +307,7 @@ fn add_words(page: &mut Page, renamings: &[Renaming]) {
     if renamings.is_empty() {
         return;
     }
-    page.bytes(b"# Names of one directory that are one here, as words for `capwhy follow`:\n");
+    page.bytes(b"# Names that are one here, as words for `capwhy follow`:\n");
     for renaming in renamings {
         say!(page; "#  ", renaming.real.as_slice(), "=", renaming.model.as_slice(), "\n");
     }
@@ -289,7 +320,7 @@ pub(crate) struct Merged {
     pub renamings: Vec<Renaming>,
 }
 
-/// The entries of records with one name for those of one directory with which the same is done. Which those are is told on a page.
+/// The entries of records with one name for those with which the same is done. Which those are is told on a page.
 pub(crate) fn with_names_merged(
     room: &mut Room,
     records: &[Vec<Entry>],

@@ -199,8 +199,8 @@ fn plan_ordered(
 }
 
 /// The task that recorded runs of a program show, with the mode behind a line of the first one, with the directories, limits and grants that
-/// this takes; in front of it what that is, in words. Where a program would have more than 256 instructions, names of one directory with
-/// which the same is done are one. Nothing is claimed of it: whether it is sandboxed is to be asked. (own)
+/// this takes; in front of it what that is, in words. Where a program would have more than 256 instructions, names with which the
+/// same is done are one, of one directory or looked for in vain. Nothing is claimed of it: whether it is sandboxed is to be asked. (own)
 pub fn plan(alloc: Global, records: &[Vec<Entry>], line: u32) -> Result<Planned, LearnFault> {
     let mut room = Room::new(alloc);
     let mut ordered = room.list();

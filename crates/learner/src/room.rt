@@ -42,9 +42,9 @@ impl Room {
         }
     }
 
-    /// Adds a number to others at a place, or behind them.
-    pub(crate) fn insert(&mut self, list: &mut Vec<usize>, place: usize, number: usize) {
-        self.push(list, number);
+    /// Adds an item to others at a place, or behind them.
+    pub(crate) fn insert<T: Drop>(&mut self, list: &mut Vec<T>, place: usize, item: T) {
+        self.push(list, item);
         for at in (place..list.len().saturating_sub(1)).rev() {
             if at + 1 < list.len() {
                 list.swap(at, at + 1);

@@ -2,7 +2,7 @@
 
 use crate::calls::number_at;
 use crate::room::Room;
-use crate::trees::{Presence, Tree};
+use crate::trees::Tree;
 use records::MadeCall;
 use rights::Side;
 use rights::limits::MAX_DESCRIPTORS;
@@ -214,8 +214,7 @@ impl Table {
     pub(crate) fn note_places(&self, room: &mut Room, tree: &mut Tree) {
         for held in &self.held {
             if let Holding::Node(place) = &held.holding {
-                tree.rewind();
-                tree.there(room, place, Presence::File);
+                tree.begin_with(room, place);
             }
         }
     }

@@ -224,8 +224,15 @@ impl Tree {
         );
     }
 
-    /// Notes that another process moves what stands at a place.
+    /// Notes that another process moves what stands at a place: where a task can't have the one place, it comes or goes at the other.
     pub(crate) fn moved_by_other(&mut self, room: &mut Room, from: &[u8], to: &[u8]) {
+        if !is_writable(from) {
+            return self.there(room, to, Presence::File);
+        }
+        if !is_writable(to) {
+            self.there(room, from, Presence::File);
+            return self.absent(room, from);
+        }
         self.moved(room, from, to);
         self.change_to(room, Deed::Moves, from, to);
     }
@@ -282,6 +289,33 @@ impl Tree {
             self.meet_above(room, place);
             self.meet(room, place, presence);
         }
+    }
+
+    /// Has something stand at a place from the start, also where a call tells that it is made.
+    fn begin_at(&mut self, room: &mut Room, place: &[u8], presence: Presence) {
+        match self.number_of(place) {
+            None => self.meet_new(room, place, presence),
+            Some(number) => {
+                if let Some(node) = self.nodes.get_mut(number) {
+                    if node.first == Presence::Absent || presence == Presence::Directory {
+                        node.first = presence;
+                    }
+                }
+            }
+        }
+    }
+
+    /// Has a file or a directory stand at a place from the start, and directories above it.
+    pub(crate) fn begin_with(&mut self, room: &mut Room, place: &[u8]) {
+        for at in 1..place.len() {
+            if place[at] == b'/' {
+                self.begin_at(room, &place[..at], Presence::Directory);
+            }
+        }
+        if place != b"/".as_slice() {
+            self.begin_at(room, place, Presence::File);
+        }
+        self.rewind();
     }
 
     /// Notes that something is made at a place, where nothing was unless it may have been there.

@@ -8,7 +8,7 @@ use crate::limiting;
 use crate::other_rights::OtherRight;
 use crate::runs::Run;
 use crate::seen_calls::{SeenCall, Through};
-use rights::Call;
+use rights::{Call, Errno};
 
 /// Linux's bits of a description's flags.
 const APPEND: u32 = 0x400;
@@ -20,14 +20,18 @@ fn description_flags(append: bool, nonblock: bool) -> u32 {
     u32::from(append) + 2 * u32::from(nonblock)
 }
 
-/// Another number for a descriptor.
-fn add_duplicate(run: &mut Run, through: &Through<'_>, closes_on_exec: bool) {
+/// Another number for a descriptor. That it was asked for a number that there can't be has no counterpart here.
+fn add_duplicate(run: &mut Run, through: &Through<'_>, closes_on_exec: bool) -> Option<Reason> {
     let seen = through.seen;
+    if let Some(Outcome::Failure(Errno::EINVAL)) = seen.outcome {
+        return Some(Reason::Unknown);
+    }
     if let Some(made) = seen.made {
         let kept = run.known.kept_of(through.mention);
         run.known.hold(made.number, kept, closes_on_exec);
     }
     run.add_on(through, Call::Dup, seen.made, seen.outcome);
+    None
 }
 
 /// A close, which takes the number away where it succeeds.
@@ -48,17 +52,19 @@ pub(crate) fn add_silent_close(run: &mut Run, seen: &SeenCall<'_>, number: u32) 
 /// A descriptor put at a number, which is closed before if it is in use: it is known, or its note tells.
 fn add_duplicate_to(run: &mut Run, through: &Through<'_>) -> Option<Reason> {
     let seen = through.seen;
-    if let (Some(mention), true) = (seen.mention(1), seen.succeeds()) {
-        if mention.number == through.mention.number {
-            return Some(Reason::Quiet);
-        }
-        if !mention.note.is_empty() || run.known.process.table.get(mention.number).is_some() {
-            let target = Through { seen, mention };
-            add_close(run, &target, Some(Outcome::Success(0)));
-        }
+    let Some(mention) = seen.mention(1) else {
+        return Some(Reason::Unknown);
+    };
+    if mention.number == through.mention.number {
+        return Some(Reason::Quiet);
     }
-    add_duplicate(run, through, seen.has(2, b"O_CLOEXEC"));
-    None
+    let is_there = !mention.note.is_empty()
+        || run.known.process.table.get(mention.number).is_some();
+    if seen.succeeds() && is_there {
+        let target = Through { seen, mention };
+        add_close(run, &target, Some(Outcome::Success(0)));
+    }
+    add_duplicate(run, through, seen.has(2, b"O_CLOEXEC"))
 }
 
 /// The closing of all numbers from one to another that are known to be in use, now or where the process goes on as another program.
@@ -164,8 +170,8 @@ fn add_fcntl(run: &mut Run, through: &Through<'_>) -> Option<Reason> {
             let nonblock = seen.has_any(2, &[b"O_NONBLOCK", b"O_NDELAY"]);
             add_new_flags(run, through, seen.has(2, b"O_APPEND"), nonblock);
         }
-        Command::Duplicate => add_duplicate(run, through, false),
-        Command::DuplicateClosing => add_duplicate(run, through, true),
+        Command::Duplicate => return add_duplicate(run, through, false),
+        Command::DuplicateClosing => return add_duplicate(run, through, true),
         Command::Closing => {
             let closes_on_exec = seen.has(2, b"FD_CLOEXEC");
             let table = &mut run.known.process.table;
@@ -195,26 +201,31 @@ fn add_ioctl(run: &mut Run, through: &Through<'_>) -> Option<Reason> {
     Some(Reason::Quiet)
 }
 
-/// A change of the offset. What is taken for an end has none, so where that of a device is changed this is left out.
-fn add_offset(run: &mut Run, through: &Through<'_>) -> Option<Reason> {
-    if through.seen.succeeds() {
-        run.known.take_for_file(through.mention);
-        if run.known.is_end(through.mention) {
-            return Some(Reason::Unknown);
-        }
+/// Takes the descriptor of a call that succeeds by files alone for the file that its note tells. Whether it still isn't one is told: then the
+/// call is left out, as of a device.
+fn is_of_no_file(run: &mut Run, through: &Through<'_>) -> bool {
+    if !through.seen.succeeds() {
+        return false;
     }
-    run.add_with(through, Call::Lseek, 0, through.seen.outcome);
-    None
+    run.known.take_for_file(through.mention);
+    run.known.is_end(through.mention)
 }
 
 /// Takes a call through a descriptor. Why it is left out is told, if it is.
 fn take_through(run: &mut Run, through: &Through<'_>, form: OnDescriptor) -> Option<Reason> {
+    let wants_file = matches!(
+        form,
+        OnDescriptor::Seek | OnDescriptor::Truncate | OnDescriptor::Sync
+    );
+    if wants_file && is_of_no_file(run, through) {
+        return Some(Reason::Unknown);
+    }
     match form {
-        OnDescriptor::Seek => return add_offset(run, through),
+        OnDescriptor::Seek => run.add_with(through, Call::Lseek, 0, through.seen.outcome),
         OnDescriptor::Truncate => run.add_with(through, Call::Ftruncate, 0, through.seen.outcome),
         OnDescriptor::Sync => run.add_lone(through, Call::Fsync),
         OnDescriptor::Status => run.add_lone(through, Call::Fstat),
-        OnDescriptor::Duplicate => add_duplicate(run, through, false),
+        OnDescriptor::Duplicate => return add_duplicate(run, through, false),
         OnDescriptor::DuplicateTo => return add_duplicate_to(run, through),
         OnDescriptor::Close => add_close(run, through, through.seen.outcome),
         OnDescriptor::CloseRange => return add_close_range(run, through),

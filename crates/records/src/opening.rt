@@ -6,8 +6,8 @@ use crate::forms::Opening;
 use crate::real_calls::Given;
 use crate::runs::Run;
 use crate::seen_calls::SeenCall;
-use crate::strace_texts::same_bytes;
-use crate::targets::{AT, HERE, Target};
+use crate::strace_texts::{place_of, same_bytes};
+use crate::targets::{AT, HERE, Naming, Target};
 use rights::{Call, OpenFlags};
 
 /// How these flags open a file, if that has a counterpart.
@@ -77,18 +77,35 @@ fn add_open(
     None
 }
 
+/// How the name is told of what is opened.
+fn naming_of(opening: Opening) -> Naming {
+    match opening {
+        Opening::At => AT,
+        Opening::Plain | Opening::Creat => HERE,
+    }
+}
+
+/// Whether an open is one that a loader makes: of a library, or of a file that tells where libraries are.
+pub(crate) fn is_of_library(run: &mut Run, seen: &SeenCall<'_>, opening: Opening) -> bool {
+    let target = run.known.target(seen, naming_of(opening));
+    let path = target.path.as_bytes();
+    place_of(path, b".so").is_some()
+        || place_of(path, b"/ld-musl").is_some()
+        || place_of(path, b"/libmap").is_some()
+}
+
 /// Takes an open. Why it is left out is told, if it is.
 pub(crate) fn take(run: &mut Run, seen: &SeenCall<'_>, opening: Opening) -> Option<Reason> {
-    let (naming, at) = match opening {
-        Opening::At => (AT, 2),
-        Opening::Plain | Opening::Creat => (HERE, 1),
+    let at = match opening {
+        Opening::At => 2,
+        Opening::Plain | Opening::Creat => 1,
     };
     let asked = seen.argument(at);
     let flags = match opening {
         Opening::Creat => OpenFlags::new(false, true, false, true, true),
         Opening::Plain | Opening::At => flags_of(asked),
     };
-    let target = run.known.target(seen, naming);
+    let target = run.known.target(seen, naming_of(opening));
     hold(run, seen, &target, has_word(asked, b"O_CLOEXEC"));
     add_open(run, seen, &target, flags, asked)
 }

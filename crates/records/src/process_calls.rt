@@ -44,15 +44,16 @@ fn mode_outcome(seen: &SeenCall<'_>) -> Option<Outcome> {
 
 /// Takes a call that works on a process. Why it is left out is told, if it is.
 pub(crate) fn take(run: &mut Run, seen: &SeenCall<'_>, form: OnProcess) -> Option<Reason> {
+    let is_thread_end = matches!(form, OnProcess::EndThread);
+    if is_thread_end && run.known.process.goes_on_without(seen.thread) {
+        return Some(Reason::Quiet);
+    }
     match form {
         OnProcess::Fork if is_thread(seen.text) => return Some(Reason::Quiet),
         OnProcess::Fork => run.add_alone(seen, Call::Fork, seen.outcome),
         OnProcess::Execute => {
             add_execute(run, seen);
             return Some(Reason::Global);
-        }
-        OnProcess::EndThread if run.known.process.leader != seen.thread => {
-            return Some(Reason::Quiet);
         }
         // A process ends once.
         OnProcess::End | OnProcess::EndThread => {

@@ -21,6 +21,9 @@ pub(crate) struct Process {
     /// Its root directory, if that isn't the first one.
     pub root: Kept,
     pub table: Table,
+    /// Whether its first thread goes on, and how many others do.
+    has_leader: bool,
+    others: u32,
     /// Whether the loader is at work.
     pub is_loading: bool,
     pub has_ended: bool,
@@ -36,9 +39,21 @@ impl Process {
             directory: Kept::Unknown,
             root: Kept::Unknown,
             table: Table::first(),
+            has_leader: true,
+            others: 0,
             is_loading: false,
             has_ended: false,
         }
+    }
+
+    /// Notes that a thread of it ends. Whether it goes on by another one is told.
+    pub(crate) fn goes_on_without(&mut self, thread: u32) -> bool {
+        if thread == self.leader {
+            self.has_leader = false;
+        } else {
+            self.others = self.others.saturating_sub(1);
+        }
+        self.has_leader || self.others > 0
     }
 
     /// Ends the process: whether it went on before.
@@ -136,12 +151,16 @@ impl Processes {
             return;
         }
         if is_thread {
+            let others = &mut self.processes[parent].others;
+            *others = others.saturating_add(1);
             return self.add_thread(parent, child);
         }
         let process = Process {
             number: child,
             leader: child,
             forked: line,
+            has_leader: true,
+            others: 0,
             is_loading: false,
             has_ended: false,
             ..self.processes[parent]
@@ -158,13 +177,17 @@ impl Processes {
         }
     }
 
-    /// Ends the process of which a thread is the first one, if it goes on: its number.
+    /// Ends the process of which a thread is the first one, if it goes on, and not by others behind that: its number.
     pub(crate) fn end(&mut self, thread: u32) -> Option<u32> {
         let Some(index) = self.find(thread) else {
             return None;
         };
-        if self.is_leader(index, thread) && self.processes[index].end() {
-            Some(self.processes[index].number)
+        if !self.is_leader(index, thread) {
+            return None;
+        }
+        let process = &mut self.processes[index];
+        if (process.has_leader || process.others == 0) && process.end() {
+            Some(process.number)
         } else {
             None
         }

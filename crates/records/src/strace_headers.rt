@@ -3,15 +3,34 @@
 use crate::strace_texts::{after, number, without_spaces};
 use texts::first_part;
 
-/// The process that a line tells, if it tells one, as `[pid 540] ` or `540 `, and what stands behind that.
-fn process_of(line: &[u8]) -> (Option<u32>, &[u8]) {
-    let (word, behind) = match after(line, b"[pid ") {
-        Some(rest) => first_part(without_spaces(rest), b']'),
-        None => first_part(line, b' '),
+/// The number that a text begins with, the name of its process in brackets if that stands behind it, and what stands behind a byte behind
+/// these.
+fn numbered(text: &[u8], end: u8) -> Option<(u32, &[u8])> {
+    let (word, behind) = first_part(text, end);
+    if let (Some(process), Some(rest)) = (number(word), behind) {
+        return Some((process, rest));
+    }
+    let (word, Some(note)) = first_part(text, b'<') else {
+        return None;
     };
-    match (number(word), behind) {
-        (Some(process), Some(rest)) => (Some(process), rest),
-        _ => (None, line),
+    let (_name, Some(rest)) = first_part(note, b'>') else {
+        return None;
+    };
+    match (number(word), after(rest, &[end])) {
+        (Some(process), Some(rest)) => Some((process, rest)),
+        _ => None,
+    }
+}
+
+/// The process that a line tells, if it tells one, as `[pid 540] `, `540 ` or `540<sh> `, and what stands behind that.
+fn process_of(line: &[u8]) -> (Option<u32>, &[u8]) {
+    let told = match after(line, b"[pid ") {
+        Some(rest) => numbered(without_spaces(rest), b']'),
+        None => numbered(line, b' '),
+    };
+    match told {
+        Some((process, rest)) => (Some(process), rest),
+        None => (None, line),
     }
 }
 

@@ -6,7 +6,7 @@ use crate::forms::Streaming;
 use crate::real_calls::Given;
 use crate::runs::Run;
 use crate::seen_calls::{SeenCall, Through};
-use crate::strace_texts::number;
+use crate::strace_texts::{number, same_bytes};
 use rights::{Call, Errno};
 use texts::{first_part, read_hex};
 
@@ -36,11 +36,17 @@ fn add_seek(run: &mut Run, through: &Through<'_>) -> bool {
     true
 }
 
-/// Whether a call came to nothing since it was asked not to wait, though what its descriptor is of waits.
+/// Whether a call came to nothing at once, though what its descriptor is of waits, as far as is told: it was asked not to, or the descriptor was made
+/// so.
 fn gives_up(run: &mut Run, seen: &SeenCall<'_>, mention: Mention<'_>) -> bool {
-    matches!(seen.outcome, Some(Outcome::Failure(Errno::EAGAIN)))
-        && (seen.has(2, b"MSG_DONTWAIT") || seen.has(3, b"MSG_DONTWAIT"))
-        && run.known.waits(mention)
+    matches!(seen.outcome, Some(Outcome::Failure(Errno::EAGAIN))) && run.known.waits(mention)
+}
+
+/// Whether a call looks at what comes and leaves it there, or asks for no bytes: then it tells nothing of the next read.
+fn takes_nothing(seen: &SeenCall<'_>, streaming: Streaming) -> bool {
+    let asks_nothing = matches!(streaming, Streaming::Read | Streaming::ReadAt)
+        && same_bytes(seen.argument(2), b"0");
+    asks_nothing || seen.has(2, b"MSG_PEEK") || seen.has(3, b"MSG_PEEK")
 }
 
 /// Bytes that go from one descriptor to another: a read, and a write where there were any.
@@ -154,6 +160,7 @@ pub(crate) fn take(run: &mut Run, seen: &SeenCall<'_>, streaming: Streaming) -> 
     match streaming {
         Streaming::SendFile => return add_copy(run, seen, 1, 0),
         Streaming::Splice => return add_copy(run, seen, 0, 2),
+        _ if takes_nothing(seen, streaming) => return Some(Reason::Unknown),
         _ => {}
     }
     match seen.mention(0) {

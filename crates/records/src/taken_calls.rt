@@ -3,7 +3,6 @@
 use crate::argument_values::{Mention, behind, first_listed, here_note, mention_of};
 use crate::entries::Reason;
 use crate::forms::{Form, OnDescriptor, OnName, Opening, Streaming, form_of};
-use crate::held::Kept;
 use crate::other_rights::OtherRight;
 use crate::runs::Run;
 use crate::seen_calls::SeenCall;
@@ -38,16 +37,27 @@ fn first_waited<'t>(seen: &SeenCall<'t>) -> Option<Mention<'t>> {
     None
 }
 
+/// Whether a call is by an input or an output that its process has from the start, which loaders leave alone.
+fn is_by_standard(run: &Run, seen: &SeenCall<'_>) -> bool {
+    match seen.mention(0) {
+        Some(mention) => mention.number < 3
+            && run.known.process.table.get(mention.number).is_some(),
+        None => false,
+    }
+}
+
 /// Whether the loader makes such a call.
-fn is_of_loader(form: Form) -> bool {
-    matches!(
-        form,
-        Form::Map
-            | Form::Opens(Opening::Plain | Opening::At)
-            | Form::Streams(Streaming::Read | Streaming::ReadAt)
-            | Form::Descriptor(OnDescriptor::Close | OnDescriptor::Status | OnDescriptor::Seek)
-            | Form::Name(OnName::Status | OnName::StatusAt)
-    )
+fn is_of_loader(run: &mut Run, seen: &SeenCall<'_>, form: Form) -> bool {
+    match form {
+        Form::Opens(Opening::Creat) => false,
+        Form::Opens(opening) => opening::is_of_library(run, seen, opening),
+        Form::Map | Form::Name(OnName::Status | OnName::StatusAt) => true,
+        Form::Streams(Streaming::Read | Streaming::ReadAt)
+        | Form::Descriptor(OnDescriptor::Close | OnDescriptor::Status | OnDescriptor::Seek) => {
+            !is_by_standard(run, seen)
+        }
+        _ => false,
+    }
 }
 
 /// Takes a call of this form. Why it is left out is told, if it is.
@@ -76,16 +86,14 @@ fn take_form(run: &mut Run, seen: &SeenCall<'_>, form: Form) -> Option<Reason> {
     None
 }
 
-/// Takes a call. It may tell which the current directory is, where that isn't known.
+/// Takes a call. It may tell which the current directory is.
 pub(crate) fn take(run: &mut Run, seen: &SeenCall<'_>) {
-    if matches!(run.known.process.directory, Kept::Unknown) {
-        if let Some(note) = here_note(seen.argument(0)) {
-            run.known.process.directory = run.known.kept_of_note(note);
-        }
+    if let Some(note) = here_note(seen.argument(0)) {
+        run.known.note_directory(note);
     }
     let form = form_of(seen.name.bytes);
     if run.known.process.is_loading {
-        if is_of_loader(form) {
+        if is_of_loader(run, seen, form) {
             return run.omit(seen, Reason::Loader);
         }
         // A call that has nothing to do with files, or reads a link, or isn't known, says nothing of that.

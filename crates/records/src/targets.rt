@@ -6,7 +6,7 @@ use crate::known::Known;
 use crate::seen_calls::SeenCall;
 use crate::strace_texts::between;
 use crate::strings::add_unescaped;
-use texts::Page;
+use texts::{Page, first_part};
 
 /// Which arguments of a call a name is: a path, counted from a directory if there is one, else from the current one.
 #[derive(Clone, Copy)]
@@ -94,7 +94,7 @@ impl Known {
         target.is_known = self.add_from_here(&mut target.path, note, path);
     }
 
-    /// What a name of a call stands at, which is known where the string was written whole.
+    /// What a name of a call stands at, which is known where the string was written whole and isn't empty.
     pub(crate) fn target<'t>(&mut self, seen: &SeenCall<'t>, naming: Naming) -> Target<'t> {
         let mut target = Target {
             is_known: false,
@@ -104,10 +104,58 @@ impl Known {
         if let Some(text) = between(seen.argument(naming.path), b"\"", b"\"") {
             let mut path = Page::new(self.alloc);
             add_unescaped(&mut path, text);
-            self.find(&mut target, seen, naming, &path);
+            if !path.is_empty() {
+                self.find(&mut target, seen, naming, &path);
+            }
             self.note(&target.path);
         }
         target
+    }
+
+    /// A place without empty names, `.` and `..`.
+    fn tidied(&mut self, place: &Page) -> Page {
+        let mut names: Vec<&[u8]> = Vec::new(self.alloc);
+        let mut rest = Some(place.as_bytes());
+        for _ in 0..=place.as_bytes().len() {
+            let Some(text) = rest else {
+                break;
+            };
+            let (name, behind) = first_part(text, b'/');
+            rest = behind;
+            match name {
+                [] | [b'.'] => {}
+                [b'.', b'.'] => {
+                    names.pop();
+                }
+                _ if names.push(name).is_ok() => {}
+                _ => self.is_short = true,
+            }
+        }
+        let mut tidy = Page::new(self.alloc);
+        for name in &names {
+            tidy.bytes(b"/");
+            tidy.bytes(name);
+        }
+        if tidy.is_empty() {
+            tidy.bytes(b"/");
+        }
+        tidy
+    }
+
+    /// Notes that a process is in the directory that a note tells, if it tells one.
+    pub(crate) fn note_directory(&mut self, note: &[u8]) {
+        let Some(noted) = place_note(note) else {
+            return;
+        };
+        let mut place = Page::new(self.alloc);
+        add_unescaped(&mut place, noted);
+        let is_known = match self.place_of(self.process.directory) {
+            Some(known) => known.as_bytes() == place.as_bytes(),
+            None => false,
+        };
+        if !is_known {
+            self.process.directory = self.keep(place);
+        }
     }
 
     /// What a name stands at, as it is kept.
@@ -124,7 +172,8 @@ impl Known {
         } else {
             return Kept::Unknown;
         }
-        self.keep(place)
+        let tidy = self.tidied(&place);
+        self.keep(tidy)
     }
 
     /// What the first argument of a call names, as it is kept.

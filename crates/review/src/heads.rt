@@ -234,7 +234,10 @@ fn outside_words(room: &mut Room, reviewed: &Reviewed<'_>, views: &[Viewed<'_>])
     for viewed in views {
         add_outside(room, &mut words, reviewed, viewed);
     }
-    room.plain(&mut words, " a yes says nothing of it.");
+    room.plain(
+        &mut words,
+        " a yes does not bound what it does to the tree.",
+    );
     words
 }
 

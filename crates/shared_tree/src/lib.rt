@@ -1,4 +1,5 @@
-//! Trees that machines share until one changes its own.
+//! A tree that is shared with its copies until one of them is changed: for searches, which keep a machine for each state and seldom change its tree.
+#![tactic(auto)]
 
 ghost use Rattle.std.specs.Prelude.{◌≡◌, IfErr, IfOk};
 ghost use Rattle.file_tree.specs.declared.faults.TreeFault.TheVariants as fault;
@@ -7,13 +8,23 @@ use file_tree::{CopyTree, Kind, New, NodeId, Tree, TreeFault};
 use link_tree::LinkTree;
 use rights::Memory;
 use std::alloc::Global;
+use std::marker::Model;
 use std::rc::Rc;
 
-/// A tree that others may have too. A change makes a tree of its own first, where they do.
+/// A tree that others may have too. A copy costs nothing, and a change makes a tree of its own first, where others have it. (own)
 #[derive(Drop)]
-pub(crate) struct SharedTree {
+pub struct SharedTree {
     alloc: Global,
     tree: Rc<LinkTree>,
+}
+
+impl Model for SharedTree {
+    ghost use Rattle.std.specs.Prelude.{List};
+    ghost use Rattle.file_tree.specs.Nodes.{Node};
+
+    ghost Value = { List Node };
+
+    ghost view = { λ shared. shared.tree.value };
 }
 
 /// A tree of its own for one that was changed.
@@ -30,7 +41,7 @@ fn shared(alloc: Global, tree: LinkTree) -> Result<Rc<LinkTree>, TreeFault>
 impl SharedTree {
     /// Sees to it that no other machine has its tree.
     fn make_own(&mut self) -> Result<(), TreeFault>
-        ensures same { self.new.tree.value ≡ self.old.tree.value }
+        ensures same { self.new ≡ self.old }
         ensures only_memory { IfErr result (λ e. e ≡ fault.Memory) }
     {
         if Rc::strong_count(&self.tree) == 1 {
@@ -47,7 +58,7 @@ impl SharedTree {
 }
 
 impl Tree for SharedTree {
-    ghost nodes = { λ shared. shared.tree.value };
+    ghost nodes = { λ shared. shared };
 
     fn new(alloc: Global) -> Result<SharedTree, TreeFault> {
         let tree = shared(alloc, LinkTree::new(alloc)?)?;
