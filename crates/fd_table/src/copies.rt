@@ -1,6 +1,6 @@
 //! Copies of what is open, and the queues of socket pairs as a whole.
 
-ghost use Rattle.std.specs.Prelude.{◌≡◌, IfOk, map};
+ghost use Rattle.std.specs.Prelude.{◌≡◌, IfOk, OnErr, OnOk, map};
 ghost use Rattle.fd_table.specs.Kept.{half_in, queue};
 ghost use Rattle.rights.specs.Views.{side_seen};
 ghost use Rattle.fd_table.specs.StoredViews.{half_kept, message_kept, pair_kept, pairs_kept, tables_kept};
@@ -48,6 +48,19 @@ impl FileTables {
             descriptions,
             pairs,
         })
+    }
+
+    /// Makes it the same as another one. Want of memory alone keeps it from that, and then nothing changes.
+    pub(crate) fn copy_from(&mut self, other: &FileTables) -> Result<(), Memory>
+        ensures ok { OnOk result (tables_kept self.new ≡ tables_kept other.now) }
+        ensures err { OnErr result (tables_kept self.new ≡ tables_kept self.old) }
+    {
+        let descriptions = other.descriptions.clone()?;
+        let pairs = other.pairs.clone()?;
+        self.entries.copy_from(&other.entries);
+        self.descriptions = descriptions;
+        self.pairs = pairs;
+        Ok(())
     }
 }
 

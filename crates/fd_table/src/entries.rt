@@ -71,6 +71,17 @@ impl Entries {
         Ok(Entries { kept })
     }
 
+    /// Makes them those of another one, in the room that is there.
+    pub(crate) fn copy_from(&mut self, other: &Entries)
+        ensures { self.new ≡ other.now }
+    {
+        self.kept.clear();
+        match self.kept.extend_from_slice(&other.kept) {
+            Ok(()) => {}
+            Err(_) => unreachable!(),
+        }
+    }
+
     /// The entry of a process at a number.
     pub(crate) fn at(&self, p: u8, n: u8) -> Option<Descriptor>
         ensures { entry_kept result ≡ entry_at self.now p n }

@@ -66,6 +66,15 @@ impl Files {
         Ok(Files { tables })
     }
 
+    /// Makes it the same as another one, with the same numbers, in the room that it has for its tables. Want of memory alone keeps it
+    /// from that, and then nothing changes. (own)
+    pub fn copy_from(&mut self, other: &Files) -> Result<(), Memory>
+        ensures ok { OnOk result (self.new ≡ other.now) }
+        ensures err { OnErr result (self.new ≡ self.old) }
+    {
+        self.tables.copy_from(&other.tables)
+    }
+
     /// The descriptor of a process at a number, if there is one.
     #[tactic(auto, unfolding(crate::specs::Kept::open_files))]
     pub fn get(&self, p: u8, n: u8) -> Option<Descriptor>

@@ -44,6 +44,19 @@ impl Model for LinkTree {
     ghost invariant = { λ tree. IsLinkedTree (links_of tree.entries.items) };
 }
 
+impl LinkTree {
+    ghost use Rattle.std.specs.Prelude.{◌≡◌, ◌<◌, length};
+    ghost use Rattle.file_tree.specs.Nodes.{node};
+
+    /// The bytes of a file, or of a link's target; a directory has none. (own)
+    pub fn content(&self, n: NodeId) -> &[u8]
+        requires { n < length self.now }
+        ensures { result.now ≡ (node self.now n).content }
+    {
+        content_in(self.entries.as_slice(), n.number())
+    }
+}
+
 impl Tree for LinkTree {
     ghost nodes = { λ tree. tree };
 

@@ -39,6 +39,17 @@ fn shared(alloc: Global, tree: LinkTree) -> Result<Rc<LinkTree>, TreeFault>
 }
 
 impl SharedTree {
+    ghost use Rattle.std.specs.Prelude.{◌<◌, length};
+    ghost use Rattle.file_tree.specs.Nodes.{node};
+
+    /// The bytes of a file, or of a link's target; a directory has none. (own)
+    pub fn content(&self, n: NodeId) -> &[u8]
+        requires { n < length self.now }
+        ensures { result.now ≡ (node self.now n).content }
+    {
+        self.tree.content(n)
+    }
+
     /// Sees to it that no other machine has its tree.
     fn make_own(&mut self) -> Result<(), TreeFault>
         ensures same { self.new ≡ self.old }

@@ -1,6 +1,6 @@
 //! Copies of the state of a run.
 
-ghost use Rattle.std.specs.Prelude.{◌≡◌, IfOk};
+ghost use Rattle.std.specs.Prelude.{◌≡◌, IfOk, OnErr, OnOk};
 
 use file_tree::CopyTree;
 use process::Process;
@@ -34,4 +34,23 @@ pub(crate) fn copy_world<T: CopyTree>(alloc: Global, world: &World<T>) -> Result
         files,
         processes,
     })
+}
+
+/// Makes a world the same as another one. Want of memory alone keeps it from that, and then nothing changes.
+pub(crate) fn copy_world_from<T: CopyTree>(
+    alloc: Global,
+    world: &mut World<T>,
+    other: &World<T>,
+) -> Result<(), Memory>
+    ensures tree { OnOk result (T.nodes world.new.tree ≡ T.nodes other.now.tree) }
+    ensures files { OnOk result (world.new.files ≡ other.now.files) }
+    ensures processes { OnOk result (world.new.processes.items ≡ other.now.processes.items) }
+    ensures err { OnErr result (world.new ≡ world.old) }
+{
+    let tree = other.tree.copy()?;
+    let processes = copy_processes(alloc, &other.processes)?;
+    world.files.copy_from(&other.files)?;
+    world.tree = tree;
+    world.processes = processes;
+    Ok(())
 }

@@ -14,7 +14,7 @@ ghost use Rattle.simulator.specs.Machines.{machine_world};
 ghost use Rattle.simulator.specs.Steps.{StepsMachine, StepsMachineAs};
 ghost use Rattle.simulator.specs.Views.{stepped_line, line_of};
 
-use crate::copies::copy_world;
+use crate::copies::{copy_world, copy_world_from};
 use crate::lines::{Line, Stepped};
 use crate::starting::first_world;
 use crate::steps::{advance, may_stand_at, step_world, step_world_as};
@@ -206,5 +206,16 @@ impl<'a, T: CopyTree> Machine<'a, T> {
             world,
             spent: self.spent,
         })
+    }
+
+    /// Makes it the same as another machine, in the room that it has. Want of memory alone keeps it from that, and then nothing changes. (own)
+    pub fn copy_from(&mut self, other: &Machine<'a, T>) -> Result<(), Memory>
+        ensures ok { OnOk result (self.new ≡ other.now) }
+        ensures err { OnErr result (self.new ≡ self.old) }
+    {
+        copy_world_from(self.alloc, &mut self.world, &other.world)?;
+        self.task = other.task;
+        self.spent = other.spent;
+        Ok(())
     }
 }
