@@ -28,18 +28,32 @@ impl Digest {
         self.second = second ^ (second >> 31);
     }
 
-    /// Adds a text behind what is there, eight bytes at a time.
+    /// Adds two numbers behind what is there, at the price of one.
+    fn add_pair(&mut self, one: u64, other: u64) {
+        let first = (self.first ^ one).wrapping_mul(FIRST_FACTOR);
+        let second = (self.second ^ other).wrapping_mul(SECOND_FACTOR);
+        self.first = first ^ (second >> 29);
+        self.second = second ^ (first >> 31);
+    }
+
+    /// Adds a text behind what is there, sixteen bytes at a time.
     pub(crate) fn add_text(&mut self, text: &[u8]) {
         self.add(text.len() as u64);
-        let mut word: u64 = 0;
-        for (at, byte) in text.iter().enumerate() {
-            word = word << 8 | u64::from(*byte);
-            if at % 8 == 7 {
-                self.add(word);
-                word = 0;
+        let (parts, rest) = text.as_chunks::<16>();
+        for part in parts {
+            if let ([one, other], _) = part.as_chunks::<8>() {
+                self.add_pair(u64::from_le_bytes(*one), u64::from_le_bytes(*other));
             }
         }
-        self.add(word);
+        let (words, rest) = rest.as_chunks::<8>();
+        for word in words {
+            self.add(u64::from_le_bytes(*word));
+        }
+        let mut last = 0;
+        for byte in rest {
+            last = last << 8 | u64::from(*byte);
+        }
+        self.add(last);
     }
 
     /// Adds another digest behind what is there.

@@ -9,6 +9,7 @@ use crate::kept::Kept;
 use crate::moves::Tries;
 use crate::readable::Readable;
 use crate::runners::{Advance, Runner};
+use crate::states::Order;
 use crate::trails::Trails;
 use crate::tried_bytes::bytes_to_try;
 use indexmap::IndexSet;
@@ -26,6 +27,7 @@ pub(crate) struct Explorer<'a> {
     task: &'a Task,
     tries: Tries<'a>,
     readable: Readable<'a>,
+    order: Order,
     seen: IndexSet<Digest>,
     trails: Trails<'a>,
     kept: Kept<'a>,
@@ -62,6 +64,7 @@ impl<'a> Explorer<'a> {
                 inputs_wait: !goals.is_empty(),
             },
             readable: Readable::new(alloc, task)?,
+            order: Order::new(alloc),
             seen: IndexSet::new(alloc),
             trails: Trails::new(alloc),
             kept: Kept::new(alloc, task.nodes().len())?,
@@ -146,7 +149,7 @@ impl<'a> Explorer<'a> {
             self.found = self.trails.run_by(parent, &self.last)?;
             return Ok(false);
         }
-        let digest = self.runner.digest(&self.readable)?;
+        let digest = self.runner.digest(&self.readable, &mut self.order)?;
         let (_, is_new) = self.seen.insert_full(digest)?;
         if !is_new {
             return Ok(false);

@@ -85,7 +85,7 @@ impl<'a> Kept<'a> {
     ) -> Result<(), Memory> {
         let number = place % self.slots.len().max(1);
         match self.slots.get_mut(number) {
-            Some(Some(at)) if stays => *runner = at.runner.copy()?,
+            Some(Some(at)) if stays => runner.copy_from(&at.runner)?,
             Some(Some(at)) => {
                 mem::swap(&mut at.runner, runner);
                 at.place = None;

@@ -204,6 +204,9 @@ impl<'a> Tries<'a> {
         moves: &mut Vec<Move<'a>>,
     ) -> Result<bool, Memory> {
         for number in 0..MAX_PROCESSES as u8 {
+            if runner.process(number).is_none() {
+                break;
+            }
             let Some(instruction) = runner.instruction(number) else {
                 continue;
             };
@@ -253,6 +256,9 @@ impl<'a> Tries<'a> {
         moves: &mut Vec<Move<'a>>,
     ) -> Result<(), Memory> {
         for number in 0..MAX_PROCESSES as u8 {
+            if runner.process(number).is_none() {
+                break;
+            }
             if runner.is_hostile(number) {
                 if !with_deeds {
                     moves.clear();

@@ -4,8 +4,8 @@ use crate::attacks::Move;
 use crate::breaking::watched_step;
 use crate::digests::Digest;
 use crate::readable::Readable;
-use crate::states::{Parts, digest_of, open_at};
-use crate::trees::{TreeDigest, digest_of_tree};
+use crate::states::{Order, Parts, digest_of, open_at};
+use crate::trees::Places;
 use fd_table::{Description, Descriptor};
 use file_tree::NodeId;
 use instruction_set::{Instruction, Operand, Syscall};
@@ -24,10 +24,21 @@ pub(crate) struct Runner<'a> {
     alloc: Global,
     task: &'a Task,
     pub machine: Machine<'a, SharedTree>,
-    /// The digest of the tree, made only where it is asked for.
-    tree: Rc<TreeDigest>,
-    /// The tree was changed since.
-    is_changed: bool,
+    /// Where its tree's nodes stand, and the tree's digest, made only where they are asked for.
+    places: Rc<Places>,
+    tree: Digest,
+    /// What was changed since.
+    changed: Changed,
+}
+
+/// What was changed of a tree.
+#[derive(Clone, Copy)]
+enum Changed {
+    Nothing,
+    /// What files contain.
+    Contents,
+    /// Names, too.
+    Names,
 }
 
 /// What a step came to, for the exploration.
@@ -41,9 +52,19 @@ pub(crate) enum Advance {
     Stays,
 }
 
-/// Whether an effect changes the tree.
-fn changes_tree(effects: &[Effect]) -> bool {
-    effects.iter().any(|effect| matches!(effect.op, Op::Write | Op::Create | Op::Remove))
+impl Changed {
+    /// What was changed, also by these effects.
+    fn by(self, effects: &[Effect]) -> Changed {
+        let mut changed = self;
+        for effect in effects {
+            changed = match (effect.op, changed) {
+                (Op::Create | Op::Remove, _) => Changed::Names,
+                (Op::Write, Changed::Nothing) => Changed::Contents,
+                _ => changed,
+            };
+        }
+        changed
+    }
 }
 
 impl<'a> Runner<'a> {
@@ -52,31 +73,38 @@ impl<'a> Runner<'a> {
         let Ok(machine) = Machine::start(alloc, task) else {
             return Err(Memory);
         };
-        let tree = TreeDigest {
-            whole: Digest::new(),
-            nodes: Vec::new(alloc),
-            grants: Vec::new(alloc),
-        };
+        let places = Rc::new(alloc, Places::new(alloc))?;
         Ok(Runner {
             alloc,
             task,
             machine,
-            tree: Rc::new(alloc, tree)?,
-            is_changed: true,
+            places,
+            tree: Digest::new(),
+            changed: Changed::Names,
         })
     }
 
     /// The same once more.
     pub(crate) fn copy(&self) -> Result<Runner<'a>, Memory> {
         let machine = self.machine.copy()?;
-        let tree = self.tree.clone()?;
+        let places = self.places.clone()?;
         Ok(Runner {
             alloc: self.alloc,
             task: self.task,
             machine,
-            tree,
-            is_changed: self.is_changed,
+            places,
+            tree: self.tree,
+            changed: self.changed,
         })
+    }
+
+    /// Makes it the same as another one of its task, in the room that it has.
+    pub(crate) fn copy_from(&mut self, other: &Runner<'a>) -> Result<(), Memory> {
+        self.machine.copy_from(&other.machine)?;
+        self.places = other.places.clone()?;
+        self.tree = other.tree;
+        self.changed = other.changed;
+        Ok(())
     }
 
     /// The process of a number, if it was made.
@@ -139,7 +167,7 @@ impl<'a> Runner<'a> {
 
     /// Whether the grant in which a node stood when the tree was looked through lists an operation.
     pub(crate) fn lists(&self, node: NodeId, op: Op) -> bool {
-        let Some(Some(at)) = self.tree.grants.get(node.number()) else {
+        let Some(Some(at)) = self.places.grants.get(node.number()) else {
             return false;
         };
         match self.task.grants().get(*at) {
@@ -156,7 +184,7 @@ impl<'a> Runner<'a> {
         let Some(acted) = &watched.line.acted else {
             return Ok(Advance::Stays);
         };
-        self.is_changed = self.is_changed || changes_tree(&acted.effects);
+        self.changed = self.changed.by(&acted.effects);
         Ok(match acted.outcome {
             LineResult::Waiting | LineResult::Ended => Advance::Stays,
             _ if watched.breach.is_some() => Advance::Breaks,
@@ -165,18 +193,28 @@ impl<'a> Runner<'a> {
     }
 
     /// The digest of the state.
-    pub(crate) fn digest(&mut self, readable: &Readable<'_>) -> Result<Digest, Memory> {
-        if self.is_changed {
-            let tree = digest_of_tree(self.alloc, self.machine.tree(), readable)?;
-            self.tree = Rc::new(self.alloc, tree)?;
-            self.is_changed = false;
+    pub(crate) fn digest(
+        &mut self,
+        readable: &Readable<'_>,
+        order: &mut Order,
+    ) -> Result<Digest, Memory> {
+        let tree = self.machine.tree();
+        if let Changed::Names = self.changed {
+            let places = Places::of(self.alloc, tree, readable)?;
+            self.places = Rc::new(self.alloc, places)?;
+        }
+        if !matches!(self.changed, Changed::Nothing) {
+            self.tree = self.places.digest_of(tree);
+            self.changed = Changed::Nothing;
         }
         let machine = &self.machine;
         let parts = Parts {
             processes: machine.processes(),
             files: machine.files(),
-            tree: &self.tree,
+            tree,
+            places: &self.places,
+            tree_digest: self.tree,
         };
-        digest_of(self.alloc, &parts, &readable.registers)
+        digest_of(self.alloc, &parts, &readable.registers, order)
     }
 }

@@ -3,7 +3,7 @@
 
 use crate::digests::Digest;
 use crate::live_registers::LiveRegisters;
-use crate::trees::TreeDigest;
+use crate::trees::Places;
 use bitflags::Flags;
 use fd_table::{Class, Description, DescriptionId, Descriptor, End, Files, Object, PairId, Side};
 use file_tree::NodeId;
@@ -11,7 +11,9 @@ use lookup::Walk;
 use process::{Process, Walking};
 use rights::Memory;
 use rights::limits::{MAX_DESCRIPTORS, MAX_LINKS, MAX_MESSAGES, MAX_PROCESSES};
+use shared_tree::SharedTree;
 use std::alloc::Global;
+use std::mem;
 
 /// How many pairs are open at most: each has two ends.
 const MAX_MET: usize = 512;
@@ -66,12 +68,37 @@ fn class_number(class: Class) -> u64 {
     }
 }
 
-/// A state's digest on its way, with the descriptions and pairs that were met so far, in the order in which they were. Where memory is refused for
-/// one, that is noted.
+/// The descriptions and pairs that were met, in the order in which they were: room that one digest after another uses.
+#[derive(Drop)]
+pub(crate) struct Order {
+    descriptions: Vec<DescriptionId>,
+    pairs: Vec<PairId>,
+}
+
+impl Order {
+    /// Nothing was met.
+    pub(crate) fn new(alloc: Global) -> Order {
+        Order {
+            descriptions: Vec::new(alloc),
+            pairs: Vec::new(alloc),
+        }
+    }
+
+    /// Lends its room to a digest that begins, or takes it back from one that is made.
+    fn exchange(&mut self, met: &mut Met<'_>) {
+        self.descriptions.clear();
+        self.pairs.clear();
+        mem::swap(&mut self.descriptions, &mut met.descriptions);
+        mem::swap(&mut self.pairs, &mut met.pairs);
+    }
+}
+
+/// A state's digest on its way, with what was met so far. Where memory is refused for that, it is noted.
 #[derive(Drop)]
 struct Met<'s> {
     files: &'s Files,
-    tree: &'s TreeDigest,
+    tree: &'s SharedTree,
+    places: &'s Places,
     registers: &'s LiveRegisters,
     digest: Digest,
     descriptions: Vec<DescriptionId>,
@@ -82,9 +109,7 @@ struct Met<'s> {
 impl<'s> Met<'s> {
     /// Adds where a node stands.
     fn add_place(&mut self, node: NodeId) {
-        if let Some(place) = self.tree.nodes.get(node.number()) {
-            self.digest.add_digest(*place);
-        }
+        self.places.add_place(&mut self.digest, self.tree, node);
     }
 
     /// Adds the place of a description among those that were met. Whether it is met for the first time is told.
@@ -217,7 +242,10 @@ impl<'s> Met<'s> {
 pub(crate) struct Parts<'s> {
     pub processes: &'s [Process],
     pub files: &'s Files,
-    pub tree: &'s TreeDigest,
+    pub tree: &'s SharedTree,
+    /// Where its nodes stand, and its digest.
+    pub places: &'s Places,
+    pub tree_digest: Digest,
 }
 
 /// The digest of a state, in which registers count that programs may look at.
@@ -225,19 +253,22 @@ pub(crate) fn digest_of(
     alloc: Global,
     parts: &Parts<'_>,
     registers: &LiveRegisters,
+    order: &mut Order,
 ) -> Result<Digest, Memory> {
     let mut met = Met {
         files: parts.files,
         tree: parts.tree,
+        places: parts.places,
         registers,
-        digest: parts.tree.whole,
-        descriptions: Vec::with_capacity(alloc, 2 * MAX_DESCRIPTORS)?,
-        pairs: Vec::with_capacity(alloc, MAX_DESCRIPTORS)?,
+        digest: parts.tree_digest,
+        descriptions: Vec::new(alloc),
+        pairs: Vec::new(alloc),
         is_short: false,
     };
-    for number in 0..MAX_PROCESSES as u8 {
-        if let Some(process) = parts.processes.get(number as usize) {
-            met.add_process(number, process);
+    order.exchange(&mut met);
+    for (number, process) in parts.processes.iter().enumerate() {
+        if number < MAX_PROCESSES {
+            met.add_process(number as u8, process);
         }
     }
     // (through what is on its way further pairs may be met)
@@ -254,6 +285,7 @@ pub(crate) fn digest_of(
             side: Side::B,
         });
     }
+    order.exchange(&mut met);
     if met.is_short {
         return Err(Memory);
     }

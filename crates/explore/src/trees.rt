@@ -7,26 +7,22 @@ use crate::policies::grant_holding;
 use crate::readable::Readable;
 use file_tree::{Kind, NodeId, Tree};
 use rights::Memory;
-use rights::limits::MAX_NODES;
+use rights::limits::{MAX_NAME, MAX_NODES};
+use shared_tree::SharedTree;
 use std::alloc::Global;
 
-/// The digest of a tree, and of where each of its nodes stands, by number, with the grant in which it stands, by its place in the policy.
+/// Where the nodes of a tree stand, by number: the digest of each one's place, or of its number where it was removed, the grant in which it stands, by its
+/// place in the policy, and whether a program can read what it contains.
 #[derive(Drop)]
-pub(crate) struct TreeDigest {
-    pub whole: Digest,
-    pub nodes: Vec<Digest>,
+pub(crate) struct Places {
+    nodes: Vec<Digest>,
     pub grants: Vec<Option<usize>>,
+    are_read: Vec<bool>,
 }
 
-/// Adds what a node is, with its content where that counts. The buffer has any bytes then.
-fn add_content<T: Tree>(
-    digest: &mut Digest,
-    tree: &T,
-    node: NodeId,
-    counts: bool,
-    buffer: &mut Vec<u8>,
-) -> Result<(), Memory>
-    requires { node < length (T.nodes tree.now) }
+/// Adds what a node is, with its content where that counts.
+fn add_content(digest: &mut Digest, tree: &SharedTree, node: NodeId, counts: bool)
+    requires { node < length tree.now }
 {
     digest.add(match tree.kind(node) {
         Kind::File => 1,
@@ -34,55 +30,78 @@ fn add_content<T: Tree>(
         Kind::Link => 3,
     });
     if counts {
-        buffer.clear();
-        for at in 0..tree.len(node) {
-            if let Some(byte) = tree.byte_at(node, at) {
-                buffer.push(byte)?;
-            }
-        }
-        digest.add_text(buffer);
+        digest.add_text(tree.content(node));
     }
-    Ok(())
 }
 
-/// The digest of a tree. The order in which its nodes were made doesn't count, and neither do removed ones, and what no program can read.
-pub(crate) fn digest_of_tree<T: Tree>(
-    alloc: Global,
-    tree: &T,
-    readable: &Readable<'_>,
-) -> Result<TreeDigest, Memory> {
-    let mut nodes = Vec::new(alloc);
-    let mut grants = Vec::new(alloc);
-    let mut whole = Digest::new();
-    let mut text = Vec::new(alloc);
-    for number in 0..tree.made() {
-        if number >= MAX_NODES {
-            break;
+impl Places {
+    /// Nothing is known.
+    pub(crate) fn new(alloc: Global) -> Places {
+        Places {
+            nodes: Vec::new(alloc),
+            grants: Vec::new(alloc),
+            are_read: Vec::new(alloc),
         }
-        let node = NodeId::at(number);
-        let mut place = Digest::new();
-        let mut grant = None;
-        text.clear();
-        if tree.is_linked(node) {
-            if tree.place_text(node, &mut text).is_err() {
-                return Err(Memory);
-            }
-            place.add_text(&text);
-            grant = grant_holding(readable.policy, &text);
-            let mut all = place;
-            let counts = readable.holds(&text);
-            add_content(&mut all, tree, node, counts, &mut text)?;
-            whole = whole.beside(all);
-        } else {
-            place.add(number as u64);
-            add_content(&mut place, tree, node, true, &mut text)?;
-        }
-        nodes.push(place)?;
-        grants.push(grant)?;
     }
-    Ok(TreeDigest {
-        whole,
-        nodes,
-        grants,
-    })
+
+    /// Where the nodes of a tree stand.
+    pub(crate) fn of(
+        alloc: Global,
+        tree: &SharedTree,
+        readable: &Readable<'_>,
+    ) -> Result<Places, Memory> {
+        let mut places = Places::new(alloc);
+        let mut text = Vec::with_capacity(alloc, MAX_NAME)?;
+        for number in 0..tree.made() {
+            if number >= MAX_NODES {
+                break;
+            }
+            let node = NodeId::at(number);
+            let mut place = Digest::new();
+            let mut grant = None;
+            text.clear();
+            if tree.is_linked(node) {
+                if tree.place_text(node, &mut text).is_err() {
+                    return Err(Memory);
+                }
+                place.add_text(&text);
+                grant = grant_holding(readable.policy, &text);
+            } else {
+                place.add(number as u64);
+            }
+            places.nodes.push(place)?;
+            places.grants.push(grant)?;
+            places.are_read.push(readable.holds(&text))?;
+        }
+        Ok(places)
+    }
+
+    /// The digest of the tree whose nodes stand so. The order in which they were made doesn't count, and neither do removed ones, and what no program can
+    /// read.
+    pub(crate) fn digest_of(&self, tree: &SharedTree) -> Digest {
+        let mut whole = Digest::new();
+        for (number, place) in self.nodes.iter().enumerate() {
+            if number >= MAX_NODES || number >= tree.made() {
+                break;
+            }
+            let node = NodeId::at(number);
+            if tree.is_linked(node) {
+                let mut all = *place;
+                let is_read = self.are_read.get(number).copied().unwrap_or(true);
+                add_content(&mut all, tree, node, is_read);
+                whole = whole.beside(all);
+            }
+        }
+        whole
+    }
+
+    /// Adds where a node stands; what a removed one contains, too.
+    pub(crate) fn add_place(&self, digest: &mut Digest, tree: &SharedTree, node: NodeId) {
+        if let Some(place) = self.nodes.get(node.number()) {
+            digest.add_digest(*place);
+        }
+        if node.number() < tree.made() && !tree.is_linked(node) {
+            add_content(digest, tree, node, true);
+        }
+    }
 }
