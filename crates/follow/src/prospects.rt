@@ -62,8 +62,10 @@ enum Prospect {
     Owes,
     /// It may show the next call of the process.
     Shows,
-    /// It may be passed, or the call skipped.
+    /// It may be passed.
     Passes,
+    /// The call may be skipped, whatever the process does.
+    Skips,
     Stuck,
 }
 
@@ -93,8 +95,10 @@ fn prospect_before(lead: &Lead<'_>, process: u8, event: &Event) -> Prospect {
     if may_show_event(lead, process, event) {
         return Prospect::Shows;
     }
-    if may_pass(lead, process) || may_be_skipped(lead, process, event) {
+    if may_pass(lead, process) {
         Prospect::Passes
+    } else if may_be_skipped(lead, process, event) {
+        Prospect::Skips
     } else {
         Prospect::Stuck
     }
@@ -129,6 +133,7 @@ impl<'a> Leads<'a> {
             match (self.prospect_at(process, at), best) {
                 (Prospect::Owes, _) => return Prospect::Owes,
                 (Prospect::Stuck, _) | (_, Prospect::Shows) => {}
+                (Prospect::Skips, Prospect::Passes) => {}
                 (prospect, _) => best = prospect,
             }
         }
@@ -144,11 +149,15 @@ impl<'a> Leads<'a> {
     }
 
     /// Has those runs from a place on come first in which a process owes something, or else may show its next call, and drops those in which it
-    /// is stuck, unless it is in all of them.
+    /// is stuck, unless it is in all of them. Where nothing else may be than that its next call is skipped, all are dropped: what it reads is told
+    /// by the call behind that.
     pub(crate) fn prefer_showing(&mut self, process: u8, first: usize) {
         let best = self.best_prospect(process, first);
         if best == Prospect::Stuck {
             return;
+        }
+        if best == Prospect::Skips {
+            return self.runs.truncate(first);
         }
         let mut at = first;
         for _ in first..self.runs.len() {

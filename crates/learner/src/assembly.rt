@@ -1,6 +1,6 @@
 //! A call of a record as the assembly language has it.
 
-use crate::calls::{is_descriptor, path_of};
+use crate::calls::{is_descriptor, path_of, place_given};
 use crate::places::last_name;
 use crate::room::Room;
 use crate::tables::{Holding, Table};
@@ -68,8 +68,16 @@ fn add_operands(page: &mut Page, table: &Table, made: &MadeCall, offset: u32) ->
     true
 }
 
+/// Whether a call opens by its path, which a link may lead on, what a task can't have.
+fn leads_to_unwritable(made: &MadeCall) -> bool {
+    match (path_of(made), place_given(made)) {
+        (Some(_), Some(place)) => !is_writable(place),
+        _ => false,
+    }
+}
+
 /// A call in assembly, with the numbers that its descriptors have in the task, and this offset, if it is a seek: none where a descriptor
-/// stands for nothing, or where assembly can't have a path.
+/// stands for nothing, or where assembly can't have a path, or a task what it leads to.
 pub(crate) fn assembly_of(
     room: &mut Room,
     table: &Table,
@@ -78,7 +86,7 @@ pub(crate) fn assembly_of(
 ) -> Option<Vec<u8>> {
     let mut page = Page::new(room.alloc());
     say!(&mut page; made.call.name());
-    if !add_operands(&mut page, table, made, offset) {
+    if leads_to_unwritable(made) || !add_operands(&mut page, table, made, offset) {
         return None;
     }
     Some(room.bytes(page))

@@ -101,7 +101,8 @@ fn add_link_of(room: &mut Room, tree: &mut Tree, records: &[Vec<Entry>], made: &
         return;
     };
     if let Some(place) = place_given(made) {
-        if path.as_slice() != place {
+        let own = tree.resolve(room, b"/", place);
+        if path.as_slice() != own.as_slice() {
             add_link(room, tree, records, &path, place);
         }
     }
@@ -149,6 +150,32 @@ fn add_success(room: &mut Room, tree: &mut Tree, made: &MadeCall, place: &[u8]) 
     }
 }
 
+/// Whether a call failed since what stands at its place is a directory.
+fn is_of_directory(made: &MadeCall) -> bool {
+    let is_removal = matches!(made.call, Call::Unlink | Call::Unlinkat);
+    fails_with(made, Errno::EEXIST)
+        || fails_with(made, Errno::EISDIR)
+        || is_removal && fails_with(made, Errno::EPERM)
+}
+
+/// The place of the file for which a call failed that needs a directory: its own, where that was to be one, or else the one above it.
+fn file_in_the_way<'p>(made: &MadeCall, place: &'p [u8]) -> &'p [u8] {
+    let is_own = match path_of(made) {
+        Some(path) => removes_directory(made) || ends_at_directory(path),
+        None => false,
+    };
+    if is_own { place } else { above(place) }
+}
+
+/// Notes that something stands in a directory.
+fn add_full(room: &mut Room, tree: &mut Tree, place: &[u8]) {
+    tree.there(room, place, Presence::Directory);
+    if !tree.holds_something(place) {
+        let inside = place_at(room, place, b"other");
+        tree.there(room, &inside, Presence::File);
+    }
+}
+
 /// What is told by a call that failed at a place.
 fn add_failure(room: &mut Room, tree: &mut Tree, made: &MadeCall, place: &[u8]) {
     let is_making = matches!(made.call, Call::Mkdir | Call::Mkdirat) || creates(made);
@@ -159,15 +186,17 @@ fn add_failure(room: &mut Room, tree: &mut Tree, made: &MadeCall, place: &[u8]) 
             tree.absent(room, place);
         }
     }
-    if fails_with(made, Errno::EEXIST) || fails_with(made, Errno::EISDIR) {
+    if is_of_directory(made) {
         tree.there(room, place, Presence::Directory);
     }
+    if fails_with(made, Errno::ENOTDIR) && !tree.meets_file(place) {
+        tree.there(room, file_in_the_way(made, place), Presence::File);
+    }
+    if fails_with(made, Errno::ELOOP) && !tree.is_known(place) {
+        tree.linked(room, place, place);
+    }
     if fails_with(made, Errno::ENOTEMPTY) {
-        tree.there(room, place, Presence::Directory);
-        if !tree.holds_something(place) {
-            let inside = place_at(room, place, b"other");
-            tree.there(room, &inside, Presence::File);
-        }
+        add_full(room, tree, place);
     }
 }
 
@@ -175,6 +204,18 @@ fn add_failure(room: &mut Room, tree: &mut Tree, made: &MadeCall, place: &[u8]) 
 fn add_move(room: &mut Room, tree: &mut Tree, made: &MadeCall, from: &[u8], to: &[u8]) {
     if fails_with(made, Errno::ENOENT) {
         tree.absent(room, from);
+    }
+    if fails_with(made, Errno::EISDIR) {
+        tree.there(room, from, Presence::File);
+        tree.there(room, to, Presence::Directory);
+    }
+    if fails_with(made, Errno::ENOTDIR) && !tree.meets_file(from) {
+        tree.there(room, from, Presence::Directory);
+        tree.there(room, to, Presence::File);
+    }
+    if fails_with(made, Errno::ENOTEMPTY) {
+        tree.there(room, from, Presence::Directory);
+        add_full(room, tree, to);
     }
     if answer_of(made).is_some() {
         if number_at(made, 0) == Some(ROOT) || number_at(made, 2) == Some(ROOT) {
@@ -185,9 +226,9 @@ fn add_move(room: &mut Room, tree: &mut Tree, made: &MadeCall, from: &[u8], to: 
     }
 }
 
-/// Notes that the directory is there from which a call goes on.
+/// Notes that the directory is there from which a call goes on, unless it failed for want of one.
 fn add_directory(room: &mut Room, tree: &mut Tree, made: &MadeCall) {
-    if path_place(made.call) == Some(1) {
+    if path_place(made.call) == Some(1) && !fails_with(made, Errno::ENOTDIR) {
         if let Some(directory) = directory_of(made, 1) {
             let place = tree.resolve(room, b"/", directory);
             tree.there(room, &place, Presence::Directory);
@@ -195,12 +236,44 @@ fn add_directory(room: &mut Room, tree: &mut Tree, made: &MadeCall) {
     }
 }
 
+/// Notes the directories from which the path of a call that succeeded goes back up.
+fn add_ways_back(room: &mut Room, tree: &mut Tree, made: &MadeCall, at: usize) {
+    let (Some(path), Some(_)) = (path_at(made, at), answer_of(made)) else {
+        return;
+    };
+    let Some(directory) = directory_of(made, at) else {
+        return;
+    };
+    for end in 1..path.len() {
+        let (way, rest) = path.split_at(end);
+        if way.ends_with(b"/") && matches!(rest, [b'.', b'.'] | [b'.', b'.', b'/', ..]) {
+            let place = tree.resolve(room, directory, way);
+            tree.there(room, &place, Presence::Directory);
+        }
+    }
+}
+
+/// Notes that what a descriptor is of is a directory, where it couldn't be read for that.
+fn add_unread(room: &mut Room, tree: &mut Tree, made: &MadeCall) {
+    if made.call != Call::Read || !fails_with(made, Errno::EISDIR) {
+        return;
+    }
+    let Some(number) = number_at(made, 0) else {
+        return;
+    };
+    if let Some(place) = place_of(made, number) {
+        let place = tree.resolve(room, b"/", place);
+        tree.there(room, &place, Presence::Directory);
+    }
+}
+
 /// What is told by a call.
 fn add_call(room: &mut Room, tree: &mut Tree, made: &MadeCall) {
     let Some(at) = path_place(made.call) else {
-        return;
+        return add_unread(room, tree, made);
     };
     add_directory(room, tree, made);
+    add_ways_back(room, tree, made, at);
     let Some(place) = place_in(room, tree, made, at) else {
         return;
     };

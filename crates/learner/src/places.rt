@@ -108,3 +108,17 @@ pub(crate) fn place_at(room: &mut Room, directory: &[u8], path: &[u8]) -> Vec<u8
     }
     place
 }
+
+/// A path behind a place.
+pub(crate) fn joined(room: &mut Room, place: &[u8], rest: &[u8]) -> Vec<u8> {
+    let mut whole = if place == b"/".as_slice() {
+        room.list()
+    } else {
+        room.copy(place)
+    };
+    room.extend(&mut whole, rest);
+    if whole.is_empty() {
+        room.push(&mut whole, b'/');
+    }
+    whole
+}

@@ -21,7 +21,8 @@ struct Reading {
     place: Vec<u8>,
     now: Progress,
     ends: Vec<Progress>,
-    is_written: bool,
+    /// Up to which offset in the task it was written.
+    written: u32,
 }
 
 /// Before the first byte.
@@ -124,7 +125,7 @@ impl Readings {
                 place,
                 now: BEGINNING,
                 ends,
-                is_written: false,
+                written: 0,
             },
         );
     }
@@ -160,11 +161,11 @@ impl Readings {
         }
     }
 
-    /// Notes how many bytes came. What was written isn't of the file's first bytes.
+    /// Notes how many bytes came. What was written isn't of the file's first bytes, but what stands behind it is.
     fn read(&mut self, room: &mut Room, tree: &mut Tree, reading: usize, bytes: u32) {
         if let Some(reading) = self.readings.get_mut(reading) {
             reading.go_on(room, bytes);
-            if !reading.is_written {
+            if reading.now.count > reading.written {
                 tree.read(&reading.place, reading.now.count as usize);
             }
         }
@@ -174,7 +175,7 @@ impl Readings {
     fn write(&mut self, room: &mut Room, reading: usize, bytes: u32) {
         if let Some(reading) = self.readings.get_mut(reading) {
             reading.go_on(room, bytes);
-            reading.is_written = true;
+            reading.written = reading.written.max(reading.now.count);
         }
     }
 

@@ -12,11 +12,12 @@ use rights::limits::MAX_DESCRIPTORS;
 /// How many numbers are of the world where nothing else is told: input, output, errors.
 const STANDARD: u32 = 3;
 
-/// A number at which a process has what the first one began with there.
-#[derive(Clone, Copy, PartialEq, Eq)]
+/// A number at which a process has what the first one began with at another one, or the same.
+#[derive(Clone, Copy)]
 struct Inherited {
     process: u32,
     number: u32,
+    first: u32,
 }
 
 /// What a process begins with, and the numbers that it makes later.
@@ -123,7 +124,7 @@ impl Beginning {
                     &mut self.inherited,
                     Inherited {
                         process: child,
-                        number: own.number,
+                        ..own
                     },
                 ),
                 _ => {}
@@ -131,14 +132,14 @@ impl Beginning {
         }
     }
 
-    /// Notes that a process closes what it inherited.
-    fn close(&mut self, own: Inherited) {
-        for at in 0..self.inherited.len() {
-            if at < self.inherited.len() && self.inherited[at] == own {
-                self.inherited.remove(at);
-                return;
+    /// Where a process has at a number what the first one began with, if it has it there.
+    fn place_of(&self, process: u32, number: u32) -> Option<usize> {
+        for (at, own) in self.inherited.iter().enumerate() {
+            if own.process == process && own.number == number {
+                return Some(at);
             }
         }
+        None
     }
 
     /// Notes that a number that the process begins with is of a file, if a call of its own shows that, or one of a process that inherited it.
@@ -152,15 +153,21 @@ impl Beginning {
         let Some(number) = number_at(made, 0) else {
             return;
         };
-        let own = Inherited { process, number };
-        if !self.inherited.contains(&own) {
+        let Some(at) = self.place_of(process, number) else {
             return;
-        }
-        if made.call == Call::Close {
-            self.close(own);
+        };
+        let Some(own) = self.inherited.get(at).copied() else {
+            return;
+        };
+        if made.call == Call::Dup {
+            let number = answer;
+            room.push(&mut self.inherited, Inherited { number, ..own });
         }
         if is_of_file(made) {
-            self.set_file(room, tree, made, number);
+            self.set_file(room, tree, made, own.first);
+        }
+        if made.call == Call::Close && at < self.inherited.len() {
+            self.inherited.remove(at);
         }
     }
 }
@@ -174,7 +181,14 @@ pub(crate) fn first_table(room: &mut Room, tree: &Tree, entries: &[Entry], proce
         inherited: room.list(),
     };
     for number in 0..STANDARD {
-        room.push(&mut beginning.inherited, Inherited { process, number });
+        room.push(
+            &mut beginning.inherited,
+            Inherited {
+                process,
+                number,
+                first: number,
+            },
+        );
     }
     for entry in entries {
         if let Event::Called(made) = &entry.event {

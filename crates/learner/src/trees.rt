@@ -1,7 +1,7 @@
 //! The tree that a record's calls tell of.
 
 use crate::assembly::is_writable;
-use crate::places::{above, behind, lies_beneath, place_at};
+use crate::places::{above, behind, joined, lies_beneath, place_at};
 use crate::room::Room;
 
 /// What stands at a place.
@@ -96,12 +96,7 @@ impl Tree {
 
     /// The node of a place.
     pub(crate) fn node_at(&self, place: &[u8]) -> Option<&Node> {
-        for node in &self.nodes {
-            if node.place.as_slice() == place {
-                return Some(node);
-            }
-        }
-        None
+        self.nodes.get(self.number_of(place)?)
     }
 
     /// Whether the world moves something.
@@ -140,6 +135,22 @@ impl Tree {
         }
     }
 
+    /// Whether something is known of a place: also that nothing stands there.
+    pub(crate) fn is_known(&self, place: &[u8]) -> bool {
+        self.at(place).is_some() || self.has_link(place)
+    }
+
+    /// Whether a file is known to stand at a place or above it.
+    pub(crate) fn meets_file(&self, place: &[u8]) -> bool {
+        for at in 1..=place.len() {
+            let is_name = at == place.len() || place[at] == b'/';
+            if is_name && self.at(&place[..at]) == Some(Presence::File) {
+                return true;
+            }
+        }
+        false
+    }
+
     /// Whether a directory above a place wasn't there before the first call.
     fn begins_cut_off(&self, place: &[u8]) -> bool {
         for at in 1..place.len() {
@@ -154,9 +165,19 @@ impl Tree {
         false
     }
 
-    /// Notes a place that wasn't told of yet, if a task can have it.
+    /// Whether a link stands at a place.
+    fn has_link(&self, place: &[u8]) -> bool {
+        for link in &self.links {
+            if link.place.as_slice() == place {
+                return true;
+            }
+        }
+        false
+    }
+
+    /// Notes a place that wasn't told of yet, if a task can have it and no link stands there.
     fn add(&mut self, room: &mut Room, place: &[u8], first: Presence, now: Presence) {
-        if !is_writable(place) {
+        if !is_writable(place) || self.has_link(place) {
             return;
         }
         let mut first = first;
@@ -424,12 +445,10 @@ impl Tree {
         }
     }
 
-    /// Notes that a link at a place leads to another one.
+    /// Notes that a link at a place leads to another one, if a task can have both.
     pub(crate) fn linked(&mut self, room: &mut Room, place: &[u8], target: &[u8]) {
-        for link in &self.links {
-            if link.place.as_slice() == place {
-                return;
-            }
+        if self.has_link(place) || !is_writable(place) || !is_writable(target) {
+            return;
         }
         self.meet_above(room, place);
         let place = room.copy(place);
@@ -475,18 +494,4 @@ impl Tree {
             self.absent(room, directory);
         }
     }
-}
-
-/// A path behind a place.
-fn joined(room: &mut Room, place: &[u8], rest: &[u8]) -> Vec<u8> {
-    let mut whole = if place == b"/".as_slice() {
-        room.list()
-    } else {
-        room.copy(place)
-    };
-    room.extend(&mut whole, rest);
-    if whole.is_empty() {
-        room.push(&mut whole, b'/');
-    }
-    whole
 }

@@ -143,7 +143,8 @@ pub(crate) fn has_word(text: &[u8], word: &[u8]) -> bool {
 }
 
 /// The flags by which a descriptor is made that is closed where the process goes on as another program.
-const CLOSES_ON_EXEC: [&[u8]; 7] = [
+const CLOSES_ON_EXEC: [&[u8]; 8] = [
+    b"O_CLOEXEC",
     b"SOCK_CLOEXEC",
     b"EPOLL_CLOEXEC",
     b"EFD_CLOEXEC",

@@ -49,7 +49,12 @@ pub(crate) fn add_silent_close(run: &mut Run, seen: &SeenCall<'_>, number: u32) 
     add_close(run, &through, Some(Outcome::Success(0)));
 }
 
-/// A descriptor put at a number, which is closed before if it is in use: it is known, or its note tells.
+/// Whether a number is in use: it is known, or its note tells.
+fn is_in_use(run: &Run, mention: Mention<'_>) -> bool {
+    !mention.note.is_empty() || run.known.process.table.get(mention.number).is_some()
+}
+
+/// A descriptor put at a number, which is closed before if it is in use. That one in use couldn't be put there has no counterpart here.
 fn add_duplicate_to(run: &mut Run, through: &Through<'_>) -> Option<Reason> {
     let seen = through.seen;
     let Some(mention) = seen.mention(1) else {
@@ -58,9 +63,11 @@ fn add_duplicate_to(run: &mut Run, through: &Through<'_>) -> Option<Reason> {
     if mention.number == through.mention.number {
         return Some(Reason::Quiet);
     }
-    let is_there = !mention.note.is_empty()
-        || run.known.process.table.get(mention.number).is_some();
-    if seen.succeeds() && is_there {
+    let is_past_limit = matches!(seen.outcome, Some(Outcome::Failure(Errno::EBADF)));
+    if is_past_limit && is_in_use(run, through.mention) {
+        return Some(Reason::Unknown);
+    }
+    if seen.succeeds() && is_in_use(run, mention) {
         let target = Through { seen, mention };
         add_close(run, &target, Some(Outcome::Success(0)));
     }
@@ -203,7 +210,7 @@ fn add_ioctl(run: &mut Run, through: &Through<'_>) -> Option<Reason> {
 
 /// Takes the descriptor of a call that succeeds by files alone for the file that its note tells. Whether it still isn't one is told: then the
 /// call is left out, as of a device.
-fn is_of_no_file(run: &mut Run, through: &Through<'_>) -> bool {
+pub(crate) fn is_of_no_file(run: &mut Run, through: &Through<'_>) -> bool {
     if !through.seen.succeeds() {
         return false;
     }
@@ -211,8 +218,18 @@ fn is_of_no_file(run: &mut Run, through: &Through<'_>) -> bool {
     run.known.is_end(through.mention)
 }
 
+/// Whether a call fails as none by a node does here: what it is of has no offset or keeps nothing, as a terminal, or was asked for an offset that
+/// there can't be.
+pub(crate) fn is_refused_by_node(run: &Run, through: &Through<'_>) -> bool {
+    matches!(through.seen.outcome, Some(Outcome::Failure(Errno::EINVAL)))
+        && run.known.is_node(through.mention)
+}
+
 /// Takes a call through a descriptor. Why it is left out is told, if it is.
 fn take_through(run: &mut Run, through: &Through<'_>, form: OnDescriptor) -> Option<Reason> {
+    if matches!(form, OnDescriptor::Seek | OnDescriptor::Sync) && is_refused_by_node(run, through) {
+        return Some(Reason::Unknown);
+    }
     let wants_file = matches!(
         form,
         OnDescriptor::Seek | OnDescriptor::Truncate | OnDescriptor::Sync

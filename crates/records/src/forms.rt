@@ -131,7 +131,7 @@ const QUIET_SCHEDULING: &[u8] =
 /// The others that have nothing to do with files or descriptors.
 const QUIET_OTHERS: &[u8] =
     b"getrandom getcpu uname sysinfo umask personality getcwd tgkill tkill set_mempolicy get_mempolicy mbind seccomp timerfd_settime \
-    timerfd_gettime landlock_create_ruleset landlock_restrict_self fadvise64 readahead __sysctl __sysctlbyname sysarch issetugid sigfastblock \
+    timerfd_gettime landlock_create_ruleset landlock_add_rule landlock_restrict_self fadvise64 readahead __sysctl __sysctlbyname sysarch issetugid sigfastblock \
     thr_self thr_exit thr_kill rtprio_thread minherit _umtx_op";
 
 /// The calls that work on a name from the root, and are none of the calls here.
@@ -158,8 +158,8 @@ const GLOBAL_OTHERS: &[u8] =
 
 /// The calls that are known, and have no counterpart.
 const UNKNOWN: &[u8] =
-    b"sendmmsg recvmmsg tee vmsplice fallocate syncfs io_setup io_submit io_getevents io_destroy io_cancel io_uring_setup io_uring_enter io_uring_register \
-    mq_open mq_timedsend mq_timedreceive fanotify_init fanotify_mark perf_event_open bpf pidfd_getfd process_mrelease __cap_rights_get cap_rights_get \
+    b"sendmmsg recvmmsg tee vmsplice fallocate syncfs io_setup io_submit io_getevents io_destroy io_cancel io_uring_enter io_uring_register \
+    mq_timedsend mq_timedreceive fanotify_mark bpf pidfd_getfd process_mrelease __cap_rights_get cap_rights_get \
     cap_fcntls_get cap_ioctls_limit cap_ioctls_get";
 
 /// The calls that work on files, descriptors and processes.
@@ -220,7 +220,8 @@ const CALLS: [(&[u8], Form); 47] = [
     (b"socketpair", Form::Pair(3)),
     (b"pipe pipe2", Form::Pair(0)),
     (
-        b"socket epoll_create epoll_create1 eventfd eventfd2 timerfd_create inotify_init inotify_init1 memfd_create signalfd signalfd4 kqueue pidfd_open userfaultfd",
+        b"socket epoll_create epoll_create1 eventfd eventfd2 timerfd_create inotify_init inotify_init1 memfd_create signalfd signalfd4 kqueue pidfd_open userfaultfd \
+            mq_open perf_event_open io_uring_setup fanotify_init memfd_secret",
         Form::World,
     ),
     (b"accept accept4", Form::Connection),

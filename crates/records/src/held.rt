@@ -16,6 +16,18 @@ pub(crate) enum Kept {
     End(u32, Side),
 }
 
+impl Kept {
+    /// A number of an end that no other one has; all that is none has 0.
+    pub(crate) fn end_number(self) -> u64 {
+        match self {
+            Kept::Unknown | Kept::Place(_) => 0,
+            Kept::End(pair, side) => {
+                u64::from(pair) << 2 | if matches!(side, Side::A) { 1 } else { 2 }
+            }
+        }
+    }
+}
+
 /// An end of the world's pair.
 pub(crate) const WORLD: Kept = Kept::End(0, Side::A);
 

@@ -31,8 +31,8 @@ pub(crate) struct Known {
     pairs: u32,
     /// The ends of pairs by the numbers that the record notes.
     ends: BTreeMap<u32, Kept>,
-    /// The ends that don't wait.
-    nonblocking: Vec<Kept>,
+    /// The ends that don't wait, by their numbers.
+    nonblocking: BTreeMap<u64, ()>,
     /// Whether memory was refused for something that should be known.
     pub is_short: bool,
 }
@@ -46,7 +46,7 @@ impl Known {
             places: Vec::new(alloc),
             pairs: 0,
             ends: BTreeMap::new(alloc),
-            nonblocking: Vec::new(alloc),
+            nonblocking: BTreeMap::new(alloc),
             is_short: false,
         }
     }
@@ -84,22 +84,24 @@ impl Known {
         self.pairs
     }
 
-    /// Whether what a descriptor is of waits, as far as is known.
+    /// Whether what a descriptor is of waits, as far as is known, as each node does.
     pub(crate) fn waits(&mut self, mention: Mention<'_>) -> bool {
+        if self.is_node(mention) {
+            return true;
+        }
         let kept = self.kept_of(mention);
-        !self.nonblocking.contains(&kept)
+        self.nonblocking.get(&kept.end_number()).is_none()
     }
 
     /// Notes whether what a descriptor is of waits.
     pub(crate) fn set_waiting(&mut self, mention: Mention<'_>, waits: bool) {
-        let kept = self.kept_of(mention);
-        for at in 0..self.nonblocking.len() {
-            if at < self.nonblocking.len() && self.nonblocking[at] == kept {
-                self.nonblocking.swap_remove(at);
-                break;
-            }
+        if self.is_node(mention) {
+            return;
         }
-        if !waits && self.nonblocking.push(kept).is_err() {
+        let number = self.kept_of(mention).end_number();
+        if waits {
+            self.nonblocking.remove(&number);
+        } else if self.nonblocking.insert(number, ()).is_err() {
             self.is_short = true;
         }
     }
@@ -152,6 +154,15 @@ impl Known {
         }
     }
 
+    /// Whether a descriptor is of a node.
+    pub(crate) fn is_node(&self, mention: Mention<'_>) -> bool {
+        match self.process.table.kept(mention.number) {
+            Kept::Place(_) => true,
+            Kept::End(_, _) => false,
+            Kept::Unknown => place_note(mention.note).is_some(),
+        }
+    }
+
     /// Puts a descriptor at a number of the process.
     pub(crate) fn hold(&mut self, number: u32, kept: Kept, closes_on_exec: bool) {
         self.process.table.put(
@@ -167,7 +178,9 @@ impl Known {
     pub(crate) fn take_for_file(&mut self, mention: Mention<'_>) {
         let note = mention.note;
         let is_world = matches!(self.process.table.kept(mention.number), Kept::End(0, _));
-        let is_device = behind(note, b"<char ").is_some() || behind(note, b"<block ").is_some();
+        let is_device = behind(note, b"<char ").is_some()
+            || behind(note, b"<block ").is_some()
+            || note.starts_with(b"/memfd:");
         if is_world && !is_device && place_note(note).is_some() {
             let kept = self.kept_of_note(note);
             self.hold(mention.number, kept, false);

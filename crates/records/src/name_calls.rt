@@ -47,9 +47,14 @@ fn add_at(run: &mut Run, seen: &SeenCall<'_>, call: Call, beneath: Call, target:
     }
 }
 
-/// What a removal came to. Linux tells a directory that isn't to be removed as EISDIR, and one that isn't empty perhaps as EEXIST.
-fn removal_outcome(seen: &SeenCall<'_>, directory: bool) -> Option<Outcome> {
+/// What a removal by a path came to. Linux tells a directory that isn't to be removed as EISDIR, also where a `.` is its last name, and one that isn't
+/// empty perhaps as EEXIST.
+fn removal_outcome(seen: &SeenCall<'_>, path: &[u8], directory: bool) -> Option<Outcome> {
     match seen.outcome {
+        Some(Outcome::Failure(Errno::EISDIR))
+            if !directory && (path.ends_with(b"/.") || same_bytes(path, b".")) => {
+            Some(Outcome::Failure(Errno::EINVAL))
+        }
         Some(Outcome::Failure(Errno::EISDIR)) if !directory => Some(Outcome::Failure(Errno::EPERM)),
         Some(Outcome::Failure(Errno::EEXIST)) => Some(Outcome::Failure(Errno::ENOTEMPTY)),
         outcome => outcome,
@@ -58,7 +63,7 @@ fn removal_outcome(seen: &SeenCall<'_>, directory: bool) -> Option<Outcome> {
 
 /// A removal.
 fn add_removal(run: &mut Run, seen: &SeenCall<'_>, target: &Target<'_>, directory: bool) {
-    let outcome = removal_outcome(seen, directory);
+    let outcome = removal_outcome(seen, target.path.as_bytes(), directory);
     let path = Given::Path(target.path.as_bytes());
     let directory = Given::Directory(directory);
     let Some(base) = target.base else {
@@ -111,7 +116,7 @@ fn add_rename<'p>(
     } else {
         Some(to)
     };
-    let outcome = removal_outcome(seen, true);
+    let outcome = removal_outcome(seen, b"", true);
     run.add(seen, Call::Renameat, &given, outcome, [Some(from), other]);
     None
 }

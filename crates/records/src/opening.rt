@@ -1,8 +1,9 @@
 //! Opens, as calls.
 
-use crate::argument_values::has_word;
+use crate::argument_values::{has_word, place_note};
 use crate::entries::{Outcome, Reason};
 use crate::forms::Opening;
+use crate::pairing::take_world;
 use crate::real_calls::Given;
 use crate::runs::Run;
 use crate::seen_calls::SeenCall;
@@ -23,11 +24,15 @@ fn flags_of(flags: &[u8]) -> Option<OpenFlags> {
     OpenFlags::new(both || !write, write, append, create, trunc)
 }
 
-/// The flags of an open that the calls here don't have, each with the error that it brings about: that the file be new, or a directory, or no link.
-const ASKED_MORE: [(&[u8], &[u8]); 3] = [
+/// The flags of an open that the calls here don't have, each with the error that it brings about: that the file be new, or a directory, or no link, or
+/// come to without one, or at once.
+const ASKED_MORE: [(&[u8], &[u8]); 6] = [
     (b"O_EXCL", b"EEXIST"),
     (b"O_DIRECTORY", b"ENOTDIR"),
     (b"O_NOFOLLOW", b"ELOOP"),
+    (b"RESOLVE_NO_SYMLINKS", b"ELOOP"),
+    (b"RESOLVE_NO_MAGICLINKS", b"ELOOP"),
+    (b"RESOLVE_CACHED", b"EAGAIN"),
 ];
 
 /// Whether an error is one that such a flag brings about.
@@ -94,6 +99,14 @@ pub(crate) fn is_of_library(run: &mut Run, seen: &SeenCall<'_>, opening: Opening
         || place_of(path, b"/libmap").is_some()
 }
 
+/// Whether what was opened is no node, as its note tells: a pipe or a socket, by a name of a descriptor that is there.
+fn is_of_no_node(seen: &SeenCall<'_>) -> bool {
+    match seen.made {
+        Some(made) => !made.note.is_empty() && place_note(made.note).is_none(),
+        None => false,
+    }
+}
+
 /// Takes an open. Why it is left out is told, if it is.
 pub(crate) fn take(run: &mut Run, seen: &SeenCall<'_>, opening: Opening) -> Option<Reason> {
     let at = match opening {
@@ -106,6 +119,13 @@ pub(crate) fn take(run: &mut Run, seen: &SeenCall<'_>, opening: Opening) -> Opti
         Opening::Plain | Opening::At => flags_of(asked),
     };
     let target = run.known.target(seen, naming_of(opening));
+    if is_of_no_node(seen) {
+        return take_world(run, seen);
+    }
     hold(run, seen, &target, has_word(asked, b"O_CLOEXEC"));
+    // (a path from a root of its own has no counterpart here)
+    if has_word(asked, b"RESOLVE_IN_ROOT") && target.base.is_none() {
+        return Some(Reason::Unknown);
+    }
     add_open(run, seen, &target, flags, asked)
 }

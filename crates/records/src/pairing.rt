@@ -6,6 +6,7 @@ use crate::held::{Kept, WORLD};
 use crate::other_rights::OtherRight;
 use crate::runs::Run;
 use crate::seen_calls::{SeenCall, Through};
+use crate::strace_texts::same_bytes;
 use rights::{Call, Errno, Side};
 
 /// Which argument has the flags of a pair, and which those of a connection.
@@ -58,8 +59,13 @@ pub(crate) fn take(run: &mut Run, seen: &SeenCall<'_>, ends: usize) -> Option<Re
 }
 
 /// Takes a call that makes a descriptor of the world: another number for an end of the world's pair that the process had before. Why it is
-/// left out is told, if it is.
+/// left out is told, if it is; other signals for a descriptor that is there make none.
 pub(crate) fn take_world(run: &mut Run, seen: &SeenCall<'_>) -> Option<Reason> {
+    let name = seen.name.bytes;
+    let is_of_signals = same_bytes(name, b"signalfd") || same_bytes(name, b"signalfd4");
+    if is_of_signals && seen.mention(0).is_some() {
+        return Some(Reason::Quiet);
+    }
     let world = Mention {
         number: run.known.process.table.world_number(),
         note: b"",

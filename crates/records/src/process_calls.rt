@@ -25,7 +25,7 @@ fn add_execute(run: &mut Run, seen: &SeenCall<'_>) {
                 add_silent_close(run, seen, number);
             }
         }
-        run.known.process.is_loading = true;
+        run.known.process.begin_program();
     }
 }
 

@@ -46,6 +46,13 @@ impl Process {
         }
     }
 
+    /// Notes that it goes on as another program, which has one thread.
+    pub(crate) fn begin_program(&mut self) {
+        self.has_leader = true;
+        self.others = 0;
+        self.is_loading = true;
+    }
+
     /// Notes that a thread of it ends. Whether it goes on by another one is told.
     pub(crate) fn goes_on_without(&mut self, thread: u32) -> bool {
         if thread == self.leader {

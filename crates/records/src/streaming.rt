@@ -1,6 +1,7 @@
 //! Reads, writes and messages, as calls.
 
 use crate::argument_values::{Listed, Mention, behind, first_listed, next_listed};
+use crate::descriptor_calls::{is_of_no_file, is_refused_by_node};
 use crate::entries::{Outcome, Reason};
 use crate::forms::Streaming;
 use crate::real_calls::Given;
@@ -25,7 +26,6 @@ fn add_write(run: &mut Run, through: &Through<'_>) -> Option<Reason> {
 
 /// A seek before a read or a write at an offset, which it answers: whether the call gets past it.
 fn add_seek(run: &mut Run, through: &Through<'_>) -> bool {
-    run.known.take_for_file(through.mention);
     let outcome = through.seen.outcome;
     if let Some(Outcome::Failure(Errno::EBADF | Errno::EINVAL)) = outcome {
         run.add_with(through, Call::Lseek, 0, outcome);
@@ -40,6 +40,14 @@ fn add_seek(run: &mut Run, through: &Through<'_>) -> bool {
 /// so.
 fn gives_up(run: &mut Run, seen: &SeenCall<'_>, mention: Mention<'_>) -> bool {
     matches!(seen.outcome, Some(Outcome::Failure(Errno::EAGAIN))) && run.known.waits(mention)
+}
+
+/// Whether a call failed as none by an end does here: its descriptor is of a pipe, which is no socket and goes one way.
+fn is_refused_by_pipe(run: &Run, seen: &SeenCall<'_>, mention: Mention<'_>) -> bool {
+    matches!(
+        seen.outcome,
+        Some(Outcome::Failure(Errno::ENOTSOCK | Errno::EBADF))
+    ) && run.known.is_end(mention)
 }
 
 /// Whether a call looks at what comes and leaves it there, or asks for no bytes: then it tells nothing of the next read.
@@ -142,7 +150,12 @@ fn add_receipt(run: &mut Run, through: &Through<'_>) {
 
 /// Takes a read, a write or a message through a descriptor. Why it is left out is told, if it is.
 fn take_through(run: &mut Run, through: &Through<'_>, streaming: Streaming) -> Option<Reason> {
-    let is_at = matches!(streaming, Streaming::ReadAt | Streaming::WriteAt);
+    // (an offset of -1 is the current one)
+    let is_at = matches!(streaming, Streaming::ReadAt | Streaming::WriteAt)
+        && !same_bytes(through.seen.argument(3), b"-1");
+    if is_refused_by_node(run, through) || is_at && is_of_no_file(run, through) {
+        return Some(Reason::Unknown);
+    }
     if is_at && !add_seek(run, through) {
         return None;
     }
@@ -164,7 +177,10 @@ pub(crate) fn take(run: &mut Run, seen: &SeenCall<'_>, streaming: Streaming) -> 
         _ => {}
     }
     match seen.mention(0) {
-        Some(mention) if seen.outcome.is_some() && !gives_up(run, seen, mention) => {
+        Some(mention)
+            if seen.outcome.is_some()
+                && !gives_up(run, seen, mention)
+                && !is_refused_by_pipe(run, seen, mention) => {
             take_through(run, &Through { seen, mention }, streaming)
         }
         _ => Some(Reason::Unknown),

@@ -79,6 +79,9 @@ fn take_form(run: &mut Run, seen: &SeenCall<'_>, form: Form) -> Option<Reason> {
         Form::Waits => (OtherRight::Event, first_waited(seen)),
         Form::Wants(right, at) => (right, seen.mention(at)),
         Form::WantsAt(_) if here_note(seen.argument(0)).is_some() => return Some(Reason::Global),
+        Form::WantsAt(OtherRight::Futimesat) if seen.has(1, b"NULL") => {
+            (OtherRight::Futimes, seen.mention(0))
+        }
         Form::WantsAt(right) => (right, seen.mention(0)),
         Form::LeftOut(reason) => return Some(reason),
     };
