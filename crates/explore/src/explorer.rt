@@ -130,10 +130,12 @@ impl<'a> Explorer<'a> {
                 if self.trails.visit(*at).parent.is_none() {
                     self.runner = Runner::start(self.alloc, self.task)?;
                 }
-                for next in self.trails.moves_to(*at) {
+                let moves = self.trails.moves_to(*at);
+                for next in moves {
                     self.runner.step(next)?;
                 }
                 self.kept.keep(*at, &mut self.runner)?;
+                self.kept.repeat(moves.len())?;
             }
             if *at != place {
                 self.kept.give(*at, true, &mut self.runner)?;

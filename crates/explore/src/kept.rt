@@ -14,6 +14,12 @@ const BYTES: usize = 12_000;
 
 const NODE_BYTES: usize = 300;
 
+/// How many machines there is room for at first: what is never touched costs no time.
+const FIRST_ROOM: usize = 256;
+
+/// How many moves are run again, for want of a machine that is gone, before there is room for twice as many.
+const MOST_REPEATED: usize = 4000;
+
 /// A machine, at the state of a place, unless it was taken away.
 #[derive(Drop)]
 struct At<'a> {
@@ -21,21 +27,62 @@ struct At<'a> {
     runner: Runner<'a>,
 }
 
+/// Room for so many machines.
+fn empty_slots<'a>(alloc: Global, count: usize) -> Result<Vec<Option<At<'a>>>, Memory> {
+    let mut slots = Vec::with_capacity(alloc, count)?;
+    for _ in 0..count {
+        slots.push(None)?;
+    }
+    Ok(slots)
+}
+
 /// The machines at the states that were met last, as many as there is room for. The one of a state may be gone.
 #[derive(Drop)]
 pub(crate) struct Kept<'a> {
+    alloc: Global,
     slots: Vec<Option<At<'a>>>,
+    /// How many there may be room for at most.
+    most: usize,
+    /// How many moves were run again since there has been room for so many.
+    repeated: usize,
 }
 
 impl<'a> Kept<'a> {
     /// Room for machines with trees of so many nodes.
     pub(crate) fn new(alloc: Global, nodes: usize) -> Result<Kept<'a>, Memory> {
-        let count = MOST_BYTES / (BYTES + nodes.min(MAX_NODES) * NODE_BYTES);
-        let mut slots = Vec::with_capacity(alloc, count)?;
-        for _ in 0..count {
-            slots.push(None)?;
+        let most = MOST_BYTES / (BYTES + nodes.min(MAX_NODES) * NODE_BYTES);
+        let slots = empty_slots(alloc, most.min(FIRST_ROOM))?;
+        Ok(Kept {
+            alloc,
+            slots,
+            most,
+            repeated: 0,
+        })
+    }
+
+    /// Notes that so many moves were run again since a machine was gone. Where these come to too many, there is room for twice as many machines
+    /// from now on, if there may be.
+    pub(crate) fn repeat(&mut self, moves: usize) -> Result<(), Memory> {
+        self.repeated = self.repeated.saturating_add(moves);
+        let count = self.slots.len().saturating_mul(2);
+        if self.repeated < MOST_REPEATED || count > self.most {
+            return Ok(());
         }
-        Ok(Kept { slots })
+        self.repeated = 0;
+        let wider = empty_slots(self.alloc, count)?;
+        let before = mem::replace(&mut self.slots, wider);
+        for slot in before {
+            let Some(at) = slot else {
+                continue;
+            };
+            // (two that had slots of their own have slots of their own again)
+            if let Some(place) = at.place {
+                if let Some(own) = self.slots.get_mut(place % count.max(1)) {
+                    *own = Some(at);
+                }
+            }
+        }
+        Ok(())
     }
 
     /// How many there is room for.
