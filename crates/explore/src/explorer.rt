@@ -134,6 +134,7 @@ impl<'a> Explorer<'a> {
                 for next in moves {
                     self.runner.step(next)?;
                 }
+                self.runner.look_through(&self.readable)?;
                 self.kept.keep(*at, &mut self.runner)?;
                 self.kept.repeat(moves.len())?;
             }

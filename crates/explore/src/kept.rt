@@ -18,7 +18,7 @@ const NODE_BYTES: usize = 300;
 const FIRST_ROOM: usize = 256;
 
 /// How many moves are run again, for want of a machine that is gone, before there is room for twice as many.
-const MOST_REPEATED: usize = 4000;
+const MOST_REPEATED: usize = 2000;
 
 /// A machine, at the state of a place, unless it was taken away.
 #[derive(Drop)]
@@ -61,11 +61,11 @@ impl<'a> Kept<'a> {
     }
 
     /// Notes that so many moves were run again since a machine was gone. Where these come to too many, there is room for twice as many machines
-    /// from now on, if there may be.
+    /// from now on, or for as many as there may be.
     pub(crate) fn repeat(&mut self, moves: usize) -> Result<(), Memory> {
         self.repeated = self.repeated.saturating_add(moves);
-        let count = self.slots.len().saturating_mul(2);
-        if self.repeated < MOST_REPEATED || count > self.most {
+        let count = self.slots.len().saturating_mul(2).min(self.most);
+        if self.repeated < MOST_REPEATED || count <= self.slots.len() {
             return Ok(());
         }
         self.repeated = 0;
@@ -75,7 +75,6 @@ impl<'a> Kept<'a> {
             let Some(at) = slot else {
                 continue;
             };
-            // (two that had slots of their own have slots of their own again)
             if let Some(place) = at.place {
                 if let Some(own) = self.slots.get_mut(place % count.max(1)) {
                     *own = Some(at);

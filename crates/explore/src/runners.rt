@@ -192,12 +192,8 @@ impl<'a> Runner<'a> {
         })
     }
 
-    /// The digest of the state.
-    pub(crate) fn digest(
-        &mut self,
-        readable: &Readable<'_>,
-        order: &mut Order,
-    ) -> Result<Digest, Memory> {
+    /// Looks through the tree, where something was changed since it was looked through.
+    pub(crate) fn look_through(&mut self, readable: &Readable<'_>) -> Result<(), Memory> {
         let tree = self.machine.tree();
         if let Changed::Names = self.changed {
             let places = Places::of(self.alloc, tree, readable)?;
@@ -207,11 +203,21 @@ impl<'a> Runner<'a> {
             self.tree = self.places.digest_of(tree);
             self.changed = Changed::Nothing;
         }
+        Ok(())
+    }
+
+    /// The digest of the state.
+    pub(crate) fn digest(
+        &mut self,
+        readable: &Readable<'_>,
+        order: &mut Order,
+    ) -> Result<Digest, Memory> {
+        self.look_through(readable)?;
         let machine = &self.machine;
         let parts = Parts {
             processes: machine.processes(),
             files: machine.files(),
-            tree,
+            tree: machine.tree(),
             places: &self.places,
             tree_digest: self.tree,
         };
