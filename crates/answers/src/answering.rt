@@ -369,9 +369,10 @@ fn written<W: Out, V: Out>(alloc: Global, answer: &Answer, out: &mut W, err: &mu
     }
 }
 
-/// The program: answers what its words ask, or tells the fault on the error stream, and gives the status: 0; or 1 where rules are
-/// broken, so that the certificate isn't accepted, no certificate is found or the text is no task's; or 2 for a fault in words or files, or 3 for want of memory or a
-/// failed output. Faults are told as `capcheck` tells them. The watcher is told how many states a search for a run has met. (own)
+/// The program: answers what its words ask, or tells the fault on the error stream, and gives the status: 0; or 1 where the
+/// answer is a no: a certificate isn't accepted or none is found, a text is no task's, a run breaks something, lines of a record aren't
+/// understood, its calls aren't shown, or what is learnt or planned is no yes; or 2 for a fault in words or files, or 3 for want of memory or
+/// a failed output. Faults are told as `capcheck` tells them. The watcher is told how many states a search for a run has met. (own)
 #[tactic(auto, using(crate::proofs::Refused::no_answer))]
 pub fn serve<S: Source, W: Out, V: Out, P: Watcher>(
     alloc: Global,

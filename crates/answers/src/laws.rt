@@ -3,7 +3,7 @@
 ghost use Rattle.answers.specs.NoAnswers.{LearntIsFollowed, LogSaysWhether, NoSaysWhether, NoneSaysWhether, PlannedIsAccepted, RecordsAreHeard};
 
 /// The status of `no` says whether the certificate is accepted: 0 isn't the answer to one that is refused, nor 1 to one that is
-/// accepted; and nothing written is an answer to neither. (own)
+/// accepted; and an empty text is the answer to neither. (own)
 pub fn no_says_whether_it_is_accepted()
     ensures { NoSaysWhether }
 {}

@@ -53,7 +53,7 @@ pub enum Question<'a> {
     Faulty {
         task: &'a str,
     },
-    /// `calls RECORD`: the calls of a record of strace.
+    /// `calls RECORD`: the calls of a record of strace or truss.
     Calls {
         file: &'a str,
     },

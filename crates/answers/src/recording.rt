@@ -1,4 +1,4 @@
-//! The calls of a record of strace.
+//! The calls of a record of strace or truss.
 
 ghost use Rattle.std.specs.Prelude.{◌≡◌, [], IfOk, true};
 ghost use Rattle.console.specs.Statuses.{is_done_status};
@@ -51,7 +51,7 @@ fn status_of(misread: &[u32]) -> u8
     }
 }
 
-/// The calls of a record that `strace -f` has written, with its other lines told beside them; the status is 1 where lines aren't understood.
+/// The calls of a record that `strace -f` or `truss -f` has written, with its other lines told beside them; the status is 1 where lines aren't understood.
 pub(crate) fn answer_calls(alloc: Global, text: &[u8]) -> Result<Answer, AllocError>
     ensures { IfOk result (λ answer. SaysCalls text.now answer.status answer.text.items) }
 {

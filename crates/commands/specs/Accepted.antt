@@ -1,5 +1,5 @@
 -- Three tasks with certificates that meet the rules, and a run of each in which a process in capability mode does what it is
--- about: receives a directory and reads beneath it, forks, and renames a file inside a grant. (own)
+-- about: receives a directory and opens a file beneath it, forks, and renames a file inside a grant. (own)
 use Rattle.std.specs.Prelude.{◌≡◌, ◌+◌, ◌++◌, ℕ, true, false, List, [], ◌∷◌, codes, Option, Some}
 use Rattle.rights.specs.Sets.{all_rights, all_commands}
 use Rattle.rights.specs.Opens.{OpenRequest, open_request}

@@ -23,7 +23,7 @@ pub fn small_tasks_show_these_traces()
 {}
 
 /// Soundness says something: three certificates meet the rules, and each task has a run in which a process in capability mode
-/// acts: it receives a directory and reads beneath it, it forks, it renames a file inside its grant.
+/// acts: it receives a directory and opens a file beneath it, it forks, it renames a file inside its grant.
 pub fn accepted_tasks_act_in_the_mode()
     ensures passing { ActsAccepted passing_plan passing_certificate (0 ∷ 0 ∷ 1 ∷ 1 ∷ [])
         (codes "0 main:0 = 0\n0 main:1 = 1\n1 child:0 = 1\n1 child:1 = 2\n") }

@@ -153,8 +153,9 @@ fn searched<'a, W: Watcher>(
     }
 }
 
-/// Searches a run that breaks something, over at most so many states, and tells the watcher now and then how many were met. It goes first
-/// from states whose processes have few steps to some points, and now and then by breadth; by breadth alone where there are none. What is
+/// Searches a run that breaks something, over at most so many states, and tells the watcher now and then how many were met. Where
+/// points are given, four orders take turns: by calls that were refused, by the steps that are left to these points, by how seldom processes
+/// stood so, and by breadth; where none are, it goes by breadth alone. What is
 /// found is checked by `breaks`, and no move of it can be left out. Processes of untrusted programs in capability mode do these deeds, and nothing
 /// else; the others do what is written.
 pub fn explore<'a, W: Watcher>(

@@ -98,7 +98,7 @@ fn write_line<W: Out>(
 }
 
 /// Writes a run that breaks something: its schedule, as `read_schedule` reads it, a blank line, its trace, as `simulate` writes it, and
-/// behind the last line of the trace what that step breaks, with a detail as that of `FoundRun`. `Device` is answered only after a failure
+/// behind the last line of the trace the breach that it is given, with a detail as that of `FoundRun`. `Device` is answered only after a failure
 /// of the writer, and `Memory` after a refused growth; what was written then is a beginning of the text.
 pub fn write_breach<W: Out>(
     alloc: Global,

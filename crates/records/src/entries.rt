@@ -104,7 +104,7 @@ pub enum Reason {
     Quiet,
     /// It works on a global name space, and is none of the calls.
     Global,
-    /// It works on a descriptor by a right that is none of the fourteen.
+    /// It works on a descriptor by a right, in a way that none of the calls does.
     Right,
     /// What became of it has no counterpart.
     Unknown,

@@ -1,5 +1,5 @@
-//! Recorded calls: what is kept of a recorded run of a program, and its text, one spelling for each. And what the lines that strace writes tell,
-//! and what calls they are.
+//! Recorded calls: what is kept of a recorded run of a program, and its text, one spelling for each. And what the lines that strace and
+//! truss write tell, and what calls they are.
 #![tactic(auto)]
 
 mod accounts;

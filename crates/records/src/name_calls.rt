@@ -79,14 +79,21 @@ fn add_removal(run: &mut Run, seen: &SeenCall<'_>, target: &Target<'_>, director
     run.add(seen, Call::Unlinkat, &given, outcome, [Some(base), None]);
 }
 
-/// One side of a rename: a directory, and a path from it. The first directory is `.` from itself.
+/// The path of a place from the first directory, which is `.` from itself.
+fn from_root(place: &[u8]) -> &[u8] {
+    match place {
+        [b'/'] => b".",
+        [b'/', path @ ..] => path,
+        _ => place,
+    }
+}
+
+/// One side of a rename: a directory, and a path from it.
 fn from_directory<'p>(target: &'p Target<'_>) -> (Mention<'p>, &'p [u8]) {
     let path = target.path.as_bytes();
-    match (target.base, path) {
-        (Some(base), _) => (base, path),
-        (None, [b'/']) => (ROOT, b"."),
-        (None, [b'/', path @ ..]) => (ROOT, path),
-        (None, _) => (ROOT, path),
+    match target.base {
+        None => (ROOT, from_root(path)),
+        Some(base) => (base, path),
     }
 }
 
@@ -121,8 +128,8 @@ fn add_rename<'p>(
     None
 }
 
-/// Takes a rename.
-fn take_rename(
+/// Takes a rename of what one name stands at to another name.
+fn take_names(
     run: &mut Run,
     seen: &SeenCall<'_>,
     source: Naming,
@@ -131,6 +138,17 @@ fn take_rename(
     let source = run.known.target(seen, source);
     let target = run.known.target(seen, target);
     add_rename(run, seen, &source, &target)
+}
+
+/// Takes a rename, with directories or without.
+fn take_rename(run: &mut Run, seen: &SeenCall<'_>, has_directories: bool) -> Option<Reason> {
+    if !has_directories {
+        return take_names(run, seen, HERE, NEW_HERE);
+    }
+    if seen.has_any(4, &DOES_MORE) {
+        return Some(Reason::Unknown);
+    }
+    take_names(run, seen, AT, NEW_AT)
 }
 
 /// Adds a call that works by one name, which stands at this.
@@ -155,28 +173,35 @@ fn add_named(
     None
 }
 
+/// How the name of a call that works by one is told.
+fn naming_of(form: OnName) -> Naming {
+    match form {
+        OnName::StatusAt | OnName::MakeDirectoryAt | OnName::RemoveAt => AT,
+        _ => HERE,
+    }
+}
+
 /// Takes a call that works by one name.
-fn take_named(run: &mut Run, seen: &SeenCall<'_>, form: OnName, naming: Naming) -> Option<Reason> {
-    let target = run.known.target(seen, naming);
+fn take_named(run: &mut Run, seen: &SeenCall<'_>, form: OnName) -> Option<Reason> {
+    let target = run.known.target(seen, naming_of(form));
     add_named(run, seen, form, &target)
+}
+
+/// Takes a status that is asked of a descriptor itself.
+fn take_itself(run: &mut Run, seen: &SeenCall<'_>) -> Option<Reason> {
+    let Some(mention) = seen.mention(0) else {
+        return Some(Reason::Unknown);
+    };
+    run.add_lone(&Through { seen, mention }, Call::Fstat);
+    None
 }
 
 /// Takes a call that works by a name. Why it is left out is told, if it is.
 pub(crate) fn take(run: &mut Run, seen: &SeenCall<'_>, form: OnName) -> Option<Reason> {
     match form {
-        OnName::StatusAt if is_of_itself(seen) => {
-            let Some(mention) = seen.mention(0) else {
-                return Some(Reason::Unknown);
-            };
-            run.add_lone(&Through { seen, mention }, Call::Fstat);
-            None
-        }
-        OnName::RenameAt if seen.has_any(4, &DOES_MORE) => Some(Reason::Unknown),
-        OnName::RenameAt => take_rename(run, seen, AT, NEW_AT),
-        OnName::Rename => take_rename(run, seen, HERE, NEW_HERE),
-        OnName::StatusAt | OnName::MakeDirectoryAt | OnName::RemoveAt => take_named(
-            run, seen, form, AT,
-        ),
-        _ => take_named(run, seen, form, HERE),
+        OnName::Rename => take_rename(run, seen, false),
+        OnName::RenameAt => take_rename(run, seen, true),
+        OnName::StatusAt if is_of_itself(seen) => take_itself(run, seen),
+        _ => take_named(run, seen, form),
     }
 }

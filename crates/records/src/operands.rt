@@ -21,7 +21,7 @@ pub enum Kind {
 /// What a call was given.
 #[derive(Drop)]
 pub enum Operand {
-    /// A descriptor, a byte or a length.
+    /// A descriptor, a byte, an offset, a length or status flags.
     Number(u32),
     /// A path of any bytes.
     Path(Vec<u8>),

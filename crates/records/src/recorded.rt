@@ -1,4 +1,4 @@
-//! What a record of `strace -f` is as calls.
+//! What a record of `strace -f` or `truss -f` is as calls.
 
 ghost use Rattle.std.specs.Prelude.{◌≡◌, IfOk, length, true};
 ghost use Rattle.texts.specs.Lines.{lines_of};
@@ -34,7 +34,7 @@ fn entries_of(alloc: Global, lines: &[StraceLine<'_>]) -> Result<Vec<Entry>, All
     reader.finish()
 }
 
-/// What a record that `strace -f` has written is as calls: an entry for each, in the order in which they end. The entries are within the
+/// What a record that `strace -f` or `truss -f` has written is as calls: an entry for each, in the order in which they end. The entries are within the
 /// limits of recorded calls, and no line is passed over: the lists have just the lines in which no call of an entry begins or ends. Only
 /// want of memory may come instead. A line past 4294967295 is told by that number.
 pub fn recorded_calls(alloc: Global, text: &[u8]) -> Result<Recorded, AllocError>
