@@ -213,14 +213,31 @@ fn plays_row(
     Ok(())
 }
 
-/// Plays steps of `main` and this `child`, each of which shows what its row says.
-fn plays(rt: &impl Abort, alloc: Global, child: &str, rows: &[Row<'_>]) -> Result<(), Fail> {
-    let task = marked_task(alloc, assemble(alloc, MAIN)?, assemble(alloc, child)?)?;
-    let mut machine: Machine<'_, LinkTree> = Machine::start(alloc, &task)?;
+/// The task of `main` and this `child`.
+fn task_of(alloc: Global, child: &str) -> Result<Task, Fail> {
+    let main = assemble(alloc, MAIN)?;
+    let child = assemble(alloc, child)?;
+    Ok(marked_task(alloc, main, child)?)
+}
+
+/// Plays steps, each of which shows what its row says.
+fn plays_rows(
+    rt: &impl Abort,
+    alloc: Global,
+    machine: &mut Machine<'_, LinkTree>,
+    rows: &[Row<'_>],
+) -> Result<(), Fail> {
     for (number, row) in rows.iter().enumerate() {
-        plays_row(rt, alloc, &mut machine, number, *row)?;
+        plays_row(rt, alloc, machine, number, *row)?;
     }
     Ok(())
+}
+
+/// Plays steps of `main` and this `child`.
+fn plays(rt: &impl Abort, alloc: Global, child: &str, rows: &[Row<'_>]) -> Result<(), Fail> {
+    let task = task_of(alloc, child)?;
+    let mut machine: Machine<'_, LinkTree> = Machine::start(alloc, &task)?;
+    plays_rows(rt, alloc, &mut machine, rows)
 }
 
 /// What an error shows.

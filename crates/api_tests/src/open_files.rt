@@ -7,7 +7,9 @@ ghost use Rattle.fd_table.specs.Kept.{open_files};
 ghost use Rattle.rights.specs.Views.{side_seen};
 ghost use Rattle.fd_table.specs.Views.{descriptor_seen};
 
-use fd_table::{Class, Descriptor, End, Entry, Files, Object, SendFault, Side, Status};
+use fd_table::{
+    Class, Description, Descriptor, End, Entry, Files, Object, SendFault, Side, Status,
+};
 use file_tree::{NodeId, Tree};
 use place_tree::PlaceTree;
 use rights::{Fcntls, Memory, OpenFlags, Rights};
@@ -108,28 +110,45 @@ fn to_append(rt: &impl Abort) -> OpenFlags {
     OpenFlags::new(true, true, true, false, false).expect(rt, "valid flags")
 }
 
+/// What an entry is of.
+fn what(rt: &impl Abort, files: &Files, p: u8, n: u8) -> Description {
+    let descriptor = entry(rt, files, p, n);
+    files.what(descriptor.description)
+}
+
+fn set_offset(rt: &impl Abort, files: &mut Files, p: u8, n: u8, offset: u16) {
+    let descriptor = entry(rt, files, p, n);
+    files.set_offset(descriptor.description, offset);
+}
+
+fn set_status(rt: &impl Abort, files: &mut Files, p: u8, n: u8, status: Status) {
+    let descriptor = entry(rt, files, p, n);
+    files.set_status(descriptor.description, status);
+}
+
+/// Whether one of two entries has rights and commands left, and the other one all rights.
+fn are_limited(rt: &impl Abort, files: &Files) -> bool {
+    let (first, second) = (entry(rt, files, 3, 0), entry(rt, files, 4, 5));
+    second.rights == Rights::READ && second.fcntls == Fcntls::GETFL && first.rights == Rights::all()
+}
+
 #[test]
 fn two_entries_share_a_description(rt: HostRuntime) -> Result<(), Fail> {
     let node = root(rt.alloc())?;
     let mut files = Files::new(rt.alloc())?;
     open(&rt, &mut files, 3, 0, node, to_append(&rt))?;
     share(&rt, &mut files, 3, 0, 4, 5);
-    let first = entry(&rt, &files, 3, 0).description;
-    files.set_offset(first, 7);
-    let second = entry(&rt, &files, 4, 5).description;
-    assert!(rt; files.what(second).offset == 7);
+    set_offset(&rt, &mut files, 3, 0, 7);
+    assert!(rt; what(&rt, &files, 4, 5).offset == 7);
     let status = Status {
         append: false,
         nonblock: true,
     };
-    files.set_status(second, status);
-    let first = entry(&rt, &files, 3, 0).description;
-    assert!(rt; files.what(first).status == status);
-    assert!(rt; files.what(first).offset == 7);
+    set_status(&rt, &mut files, 4, 5, status);
+    let first = what(&rt, &files, 3, 0);
+    assert!(rt; first.status == status && first.offset == 7);
     limit(&rt, &mut files, 4, 5, Rights::READ, Fcntls::GETFL);
-    assert!(rt; entry(&rt, &files, 4, 5).rights == Rights::READ);
-    assert!(rt; entry(&rt, &files, 4, 5).fcntls == Fcntls::GETFL);
-    assert!(rt; entry(&rt, &files, 3, 0).rights == Rights::all());
+    assert!(rt; are_limited(&rt, &files));
     close(&rt, &mut files, 3, 0);
     assert!(rt; files.count() == 1);
     close(&rt, &mut files, 4, 5);

@@ -9,7 +9,7 @@ use rights::{Fcntls, Op, Rights};
 use std::alloc::Global;
 use std::process::Abort;
 use std::test::Fail;
-use task::{FirstObject, Task, TaskNode, grant_holds, grant_lists, grant_named};
+use task::{FirstDescriptor, FirstObject, Task, TaskNode, grant_holds, grant_lists, grant_named};
 use task_reader::{TaskFault, read_task};
 
 /// A node that is open for reading.
@@ -23,52 +23,72 @@ fn to_read(node: u16) -> FirstObject {
     }
 }
 
-#[test]
-fn the_base_task_is_read(rt: HostRuntime) -> Result<(), Fail> {
-    let task = match read_task(rt.alloc(), BASE.as_bytes()) {
-        Ok(task) => task,
-        Err(fault) => panic!(rt; "fault {}", fault.number()),
-    };
-    assert!(rt; task.nodes().len() == 12);
+/// Whether the first nodes of the base task are as it says.
+fn has_base_nodes(task: &Task) -> bool {
     match task.nodes() {
         [root, work, file, _, link, ..] => {
-            assert!(rt; root.place.is_root() && matches!(root.kind, Kind::Dir));
-            assert!(rt; matches!(work.kind, Kind::Dir) && work.place.text() == b"/work".as_slice());
-            assert!(rt;
-                matches!(file.kind, Kind::File) && file.content.as_slice() == b"AB".as_slice()
-            );
-            assert!(rt; matches!(link.kind, Kind::Link));
-            assert!(rt; link.content.as_slice() == b"out/../in".as_slice());
+            root.place.is_root()
+                && matches!(root.kind, Kind::Dir)
+                && matches!(work.kind, Kind::Dir)
+                && work.place.text() == b"/work".as_slice()
+                && matches!(file.kind, Kind::File)
+                && file.content.as_slice() == b"AB".as_slice()
+                && matches!(link.kind, Kind::Link)
+                && link.content.as_slice() == b"out/../in".as_slice()
         }
-        _ => panic!(rt; "too few nodes"),
+        _ => false,
     }
+}
+
+/// Whether it has its two grants.
+fn has_base_grants(task: &Task) -> bool {
     match task.grants() {
         [work, log] => {
-            assert!(rt; work.name.as_bytes() == b"work".as_slice());
-            assert!(rt; log.name.as_bytes() == b"log".as_slice());
-            assert!(rt; matches!(work.operations.as_slice(), [Op::Look, Op::Read]));
-            assert!(rt; log.operations.len() == 3);
+            work.name.as_bytes() == b"work".as_slice()
+                && log.name.as_bytes() == b"log".as_slice()
+                && matches!(work.operations.as_slice(), [Op::Look, Op::Read])
+                && log.operations.len() == 3
         }
-        _ => panic!(rt; "not two grants"),
+        _ => false,
     }
+}
+
+/// Whether a task has one program, which ends at once.
+fn only_ends(task: &Task) -> bool {
     match task.programs() {
-        [main] => assert!(rt; matches!(main.program.code(), [Instruction::Halt])),
-        _ => panic!(rt; "not one program"),
+        [main] => matches!(main.program.code(), [Instruction::Halt]),
+        _ => false,
     }
+}
+
+/// Whether the base task has its one process outside the mode, with two descriptors.
+fn has_base_start(task: &Task) -> bool {
     match task.starts() {
-        [start] => {
-            assert!(rt; start.program == 0 && !start.mode);
-            match start.descriptors.as_slice() {
-                [zero, one] => {
-                    assert!(rt; zero.number == 0 && zero.object == to_read(1));
-                    assert!(rt; one.number == 1 && one.object == to_read(9));
-                }
-                _ => panic!(rt; "not two descriptors"),
-            }
-        }
-        _ => panic!(rt; "not one process"),
+        [start] => start.program == 0 && !start.mode && are_base(&start.descriptors),
+        _ => false,
     }
-    Ok(())
+}
+
+/// Whether these are its descriptors.
+fn are_base(descriptors: &[FirstDescriptor]) -> bool {
+    match descriptors {
+        [zero, one] => {
+            zero.number == 0
+                && zero.object == to_read(1)
+                && one.number == 1
+                && one.object == to_read(9)
+        }
+        _ => false,
+    }
+}
+
+#[test]
+fn the_base_task_is_read(rt: HostRuntime) {
+    let task = task(&rt, rt.alloc(), BASE);
+    assert!(rt; task.nodes().len() == 12 && has_base_nodes(&task));
+    assert!(rt; has_base_grants(&task));
+    assert!(rt; only_ends(&task));
+    assert!(rt; has_base_start(&task));
 }
 
 /// The fault that no line tells.
@@ -96,28 +116,44 @@ fn end(side: Side) -> FirstObject {
     FirstObject::End { pair: 31, side }
 }
 
+/// Whether these are the descriptors of the parent.
+fn are_parents(descriptors: &[FirstDescriptor]) -> bool {
+    match descriptors {
+        [two, three] => {
+            two.number == 2
+                && two.object == end(Side::A)
+                && two.rights == Rights::all()
+                && two.fcntls == Fcntls::all()
+                && three.number == 3
+                && three.object == end(Side::A)
+                && three.rights == Rights::empty()
+        }
+        _ => false,
+    }
+}
+
+/// Whether these are those of the child.
+fn are_childs(descriptors: &[FirstDescriptor]) -> bool {
+    match descriptors {
+        [two] => {
+            two.number == 2
+                && two.object == end(Side::B)
+                && two.rights == Rights::READ
+                && two.fcntls == Fcntls::empty()
+        }
+        _ => false,
+    }
+}
+
 #[test]
 fn ends_are_read(rt: HostRuntime) {
     let task = task(&rt, rt.alloc(), FAMILY);
-    let (parent, child) = match task.starts() {
-        [parent, child] => (parent, child),
+    match task.starts() {
+        [parent, child] => {
+            assert!(rt; are_parents(&parent.descriptors));
+            assert!(rt; are_childs(&child.descriptors));
+        }
         _ => panic!(rt; "not two processes"),
-    };
-    match parent.descriptors.as_slice() {
-        [two, three] => {
-            assert!(rt; two.number == 2 && two.object == end(Side::A));
-            assert!(rt; two.rights == Rights::all() && two.fcntls == Fcntls::all());
-            assert!(rt; three.number == 3 && three.object == end(Side::A));
-            assert!(rt; three.rights == Rights::empty());
-        }
-        _ => panic!(rt; "not two descriptors"),
-    }
-    match child.descriptors.as_slice() {
-        [two] => {
-            assert!(rt; two.number == 2 && two.object == end(Side::B));
-            assert!(rt; two.rights == Rights::READ && two.fcntls == Fcntls::empty());
-        }
-        _ => panic!(rt; "not one descriptor"),
     }
 }
 
@@ -142,30 +178,30 @@ fn task(rt: &impl Abort, alloc: Global, text: &str) -> Task {
     }
 }
 
+/// Whether it starts so.
+fn has_small_start(task: &Task) -> bool {
+    match task.starts() {
+        [start] => start.mode && start.program == 0 && is_small(&start.descriptors),
+        _ => false,
+    }
+}
+
+/// Whether this is its one descriptor.
+fn is_small(descriptors: &[FirstDescriptor]) -> bool {
+    match descriptors {
+        [first] => first.number == 2 && first.object == to_read(2),
+        _ => false,
+    }
+}
+
 #[test]
 fn a_task_has_its_parts(rt: HostRuntime) {
     let task = task(&rt, rt.alloc(), SMALL);
-    assert!(rt; task.nodes().len() == 3);
-    assert!(rt; task.grants().len() == 1);
-    match task.starts() {
-        [start] => {
-            assert!(rt; start.mode && start.program == 0);
-            assert!(rt; start.descriptors.len() == 1);
-            assert!(rt;
-                start
-                    .descriptors
-                    .iter()
-                    .all(|d| d.number == 2 && d.object == to_read(2))
-            );
-        }
-        _ => panic!(rt; "not one process"),
-    }
+    assert!(rt; task.nodes().len() == 3 && task.grants().len() == 1);
+    assert!(rt; has_small_start(&task));
+    assert!(rt; only_ends(&task));
     assert!(rt; task.program_name(0) == b"main".as_slice());
     assert!(rt; task.program_name(1).is_empty());
-    match task.programs() {
-        [main] => assert!(rt; matches!(main.program.code(), [Instruction::Halt])),
-        _ => panic!(rt; "not one program"),
-    }
 }
 
 #[test]

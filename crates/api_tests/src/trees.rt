@@ -364,6 +364,30 @@ fn link_tree_has_the_rows(rt: HostRuntime) -> Result<(), Fail> {
     Ok(rows::<LinkTree>(&rt, rt.alloc())?)
 }
 
+/// Whether places lie as their names say.
+fn lie_so(root: &Place, workshop: &Place, work: &Place, letters: &Place) -> bool {
+    work.is_same(work)
+        && !work.is_same(workshop)
+        && !root.is_same(work)
+        && letters.begins_with(work)
+        && !workshop.begins_with(work)
+        && letters.stands_in(work)
+        && letters.is_child(work, b"letters")
+        && letters.compare(workshop).is_lt()
+}
+
+/// Whether places have these texts.
+fn read_so(root: &Place, work: &Place, letters: &Place) -> bool {
+    letters.text() == b"/work/letters".as_slice()
+        && root.text() == b"/".as_slice()
+        && letters.text_above() == work.text()
+        && root.is_root()
+        && letters.name() == Some(b"letters".as_slice())
+        && root.name().is_none()
+        && letters.names().count() == 2
+        && root.names_text().is_empty()
+}
+
 #[test]
 fn places_go_by_names(rt: HostRuntime) -> Result<(), Fail> {
     let alloc = rt.alloc();
@@ -372,13 +396,7 @@ fn places_go_by_names(rt: HostRuntime) -> Result<(), Fail> {
     let mut work = root.copy(alloc)?;
     work.push(b"work")?;
     let letters = Place::of_names(alloc, b"work/letters")?;
-    assert!(rt; work.is_same(&work) && !work.is_same(&workshop) && !root.is_same(&work));
-    assert!(rt; letters.begins_with(&work) && !workshop.begins_with(&work));
-    assert!(rt; letters.stands_in(&work) && letters.is_child(&work, b"letters"));
-    assert!(rt; letters.text() == b"/work/letters".as_slice() && root.text() == b"/".as_slice());
-    assert!(rt; letters.text_above() == work.text() && root.is_root());
-    assert!(rt; letters.name() == Some(b"letters".as_slice()) && root.name().is_none());
-    assert!(rt; letters.names().count() == 2 && root.names_text().is_empty());
-    assert!(rt; letters.compare(&workshop).is_lt());
+    assert!(rt; lie_so(&root, &workshop, &work, &letters));
+    assert!(rt; read_so(&root, &work, &letters));
     Ok(())
 }

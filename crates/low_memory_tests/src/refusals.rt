@@ -117,6 +117,60 @@ fn runs_want_memory_or_go_on(rt: HostRuntime) -> Result<(), Fail> {
     Ok(())
 }
 
+/// A machine behind some steps, if all are taken.
+fn machine_behind<'a>(
+    alloc: Global,
+    task: &'a Task,
+    events: &[Event],
+) -> Option<Machine<'a, LinkTree>> {
+    let mut machine: Machine<'a, LinkTree> = Machine::start(alloc, task).ok()?;
+    for event in events {
+        let _line = machine.step(*event).ok()?;
+    }
+    Some(machine)
+}
+
+/// Whether a step wants memory, if it doesn't come to something else.
+fn wants_memory(machine: &mut Machine<'_, LinkTree>, event: Event) -> Option<bool> {
+    match machine.step(event) {
+        Ok(_) => Some(false),
+        Err(Stop::Memory) => Some(true),
+        Err(_) => None,
+    }
+}
+
+/// Whether a machine takes no step any more.
+fn is_spent(machine: &mut Machine<'_, LinkTree>, events: &[Event]) -> bool {
+    for event in events {
+        if !matches!(machine.step(*event), Err(Stop::Spent)) {
+            return false;
+        }
+    }
+    true
+}
+
+/// Whether the step behind so many others wants memory where so much is left, and the machine takes none behind that; nothing if it comes to
+/// something else.
+fn is_refused_step(
+    alloc: Global,
+    memory: &mut Scarcity,
+    task: &Task,
+    events: &[Event],
+    (before, left): (usize, usize),
+) -> Option<bool> {
+    let first = events.get(..before)?;
+    let next = events.get(before)?;
+    let mut machine = machine_behind(alloc, task, first)?;
+    if !memory.leave(left) {
+        return None;
+    }
+    let is_refused = wants_memory(&mut machine, *next)?;
+    if is_refused && !is_spent(&mut machine, events) {
+        return None;
+    }
+    Some(is_refused)
+}
+
 /// How often the step behind so many others wants memory, until it is taken; nothing if it comes to something else, or if a machine
 /// takes a step behind one that wanted memory.
 fn refused_steps(
@@ -130,22 +184,8 @@ fn refused_steps(
         if !memory.leave(AMPLE) {
             return None;
         }
-        let mut machine: Machine<'_, LinkTree> = Machine::start(alloc, task).ok()?;
-        for event in events.iter().take(before) {
-            let _line = machine.step(*event).ok()?;
-        }
-        if !memory.leave(count * STEP) {
-            return None;
-        }
-        match machine.step(*events.get(before)?) {
-            Ok(_) => return Some(count),
-            Err(Stop::Memory) => {}
-            Err(_) => return None,
-        }
-        for event in events {
-            if !matches!(machine.step(*event), Err(Stop::Spent)) {
-                return None;
-            }
+        if !is_refused_step(alloc, memory, task, events, (before, count * STEP))? {
+            return Some(count);
         }
     }
     None
