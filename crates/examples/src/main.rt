@@ -179,29 +179,55 @@ fn has_part(text: &[u8], part: &[u8]) -> bool {
     })
 }
 
+/// Whether a case asks for one output alone.
+fn has_output(case: &Case) -> bool {
+    case.out.is_some() || !case.found && case.without.is_none()
+}
+
+/// Whether the output is another one than is wanted.
+fn has_other_output(rt: &HostRuntime, case: &Case, said: &Said) -> Result<bool> {
+    let out = wanted(rt, &case.out)?;
+    Ok(has_output(case) && said.out != out)
+}
+
+/// Whether a text stands in the output that is to stand nowhere in it.
+fn has_unwanted(case: &Case, said: &Said) -> bool {
+    match &case.without {
+        None => false,
+        Some(part) => has_part(&said.out, part.as_bytes()),
+    }
+}
+
+/// Whether what is told on the error stream is another line than is wanted.
+fn has_other_error(rt: &HostRuntime, case: &Case, said: &Said) -> Result<bool> {
+    let err = wanted(rt, &case.err)?;
+    Ok(said.err != err)
+}
+
+/// Whether what was found isn't accepted, where it has to be.
+fn has_no_certificate(rt: &HostRuntime, case: &Case, said: &Said) -> Result<bool> {
+    if !case.found {
+        return Ok(false);
+    }
+    let is_accepted = is_accepted(rt, &case.words, &said.out)?;
+    Ok(!is_accepted)
+}
+
 /// What differs of a case from what is wanted.
 fn differences(rt: &HostRuntime, case: &Case) -> Result<Vec<&'static str>> {
     let said = asked(rt, case.why, &case.words, None)?;
-    let out = wanted(rt, &case.out)?;
-    let err = wanted(rt, &case.err)?;
+    let parts = [
+        (has_other_output(rt, case, &said)?, "output"),
+        (has_unwanted(case, &said), "what it is to be without"),
+        (has_other_error(rt, case, &said)?, "error"),
+        (said.status != case.status, "status"),
+        (has_no_certificate(rt, case, &said)?, "certificate"),
+    ];
     let mut differ = Vec::new(rt.alloc());
-    let any_will_do = case.out.is_none() && (case.found || case.without.is_some());
-    if said.out != out && !any_will_do {
-        differ.push("output")?;
-    }
-    if let Some(part) = &case.without {
-        if has_part(&said.out, part.as_bytes()) {
-            differ.push("what it is to be without")?;
+    for (differs, name) in parts {
+        if differs {
+            differ.push(name)?;
         }
-    }
-    if said.err != err {
-        differ.push("error")?;
-    }
-    if said.status != case.status {
-        differ.push("status")?;
-    }
-    if case.found && !is_accepted(rt, &case.words, &said.out)? {
-        differ.push("certificate")?;
     }
     Ok(differ)
 }
