@@ -8,7 +8,7 @@ use Rattle.remarks.specs.Listed.{Remark, Never_enters, Untrusted, Unreached, Uns
 use Rattle.remarks.specs.Listed.{Remarked, numbers, remarks_on}
 use Rattle.remarks.specs.TaskRemarks.{TaskRemark, Alone, Boundless, task_remarks}
 use Rattle.remarks.specs.Unneeded.{unneeded}
-use Rattle.remarks.specs.Warnings.{Difference, Absolute_path, Way_out, Last_link, Commands_gone, No_number_left, Unlisted_look}
+use Rattle.remarks.specs.Warnings.{Difference, Absolute_path, Way_out, Last_link, Commands_gone, No_number_left, One_number_left, Unlisted_look}
 use Rattle.remarks.specs.Warnings.{Warned, bounds_in, prying, starts_listable, starts_with_more, warned_in, widest}
 use Rattle.rights.specs.Values.{DescriptorNumber}
 use Rattle.task.specs.Plans.{Grant, NamedProgram, Plan, Start}
@@ -78,6 +78,7 @@ difference_part Way_out = codes "ways-out-of-a-directory"
 difference_part Last_link = codes "a-last-link-that-is-created"
 difference_part Commands_gone = codes "commands-without-fcntl"
 difference_part No_number_left = codes "sixteen-numbers"
+difference_part One_number_left = codes "sixteen-numbers"
 difference_part Unlisted_look = codes "what-a-right-does-beyond-its-calls"
 
 unfoldable pub more_rights : List ℕ

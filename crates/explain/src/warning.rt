@@ -54,6 +54,8 @@ fn text_of(matter: Matter) -> &'static str {
             "a descriptor without FCNTL has no command to keep; write this limit before that of rights, or none",
         Matter::Differs(Difference::NoNumberLeft) =>
             "all sixteen numbers may be open, and a process may have more; write a close before it",
+        Matter::Differs(Difference::OneNumberLeft) =>
+            "fifteen of the sixteen numbers may be open, and a process may have more; write a close before it",
         Matter::Differs(Difference::UnlistedLook) =>
             "LOOKUP reads the texts of links, and READ lists a directory; write look into the grant's ops",
         Matter::FailedClose =>
@@ -83,7 +85,7 @@ fn part_of(matter: Matter) -> &'static str
         Matter::Differs(Difference::WayOut) => "ways-out-of-a-directory",
         Matter::Differs(Difference::LastLink) => "a-last-link-that-is-created",
         Matter::Differs(Difference::CommandsGone) => "commands-without-fcntl",
-        Matter::Differs(Difference::NoNumberLeft) => "sixteen-numbers",
+        Matter::Differs(Difference::NoNumberLeft | Difference::OneNumberLeft) => "sixteen-numbers",
         Matter::Differs(Difference::UnlistedLook) | Matter::Directory | Matter::PryingCeiling =>
             "what-a-right-does-beyond-its-calls",
         Matter::FailedClose => "a-close-that-fails",

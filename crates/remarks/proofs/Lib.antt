@@ -5,3 +5,4 @@ mod Rows
 mod ListedRows
 pub mod BeyondRows
 mod UnneededRows
+mod WarningRows

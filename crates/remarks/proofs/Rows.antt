@@ -5,13 +5,13 @@ use Rattle.rights.specs.Classes.{Initial}
 use Rattle.rights.specs.Operations.{Operation, Look, Read as Read_bytes}
 use Rattle.rights.specs.Sets.{all_commands, all_rights, read_right}
 use Rattle.rights.specs.Values.{CommandSet, RightSet}
-use Rattle.file_tree.specs.Nodes.{Kind, Node, File, Dir, Link}
+use Rattle.file_tree.specs.Nodes.{Kind, File, Dir}
 use Rattle.certificate.specs.Bounds.{Bound, ModeBound, Off, On, Either, Held, Target, In_grant, Any_node, Socket, Slot, Open, Closed}
 use Rattle.instruction_set.specs.Programs.{Instruction, Jmp, Jeq, Halt, Invoke, Cap_enter, Read, Close, Number}
 use Rattle.remarks.specs.Marked.{skipping_marked, unsettled_marked}
 use Rattle.remarks.specs.Remarks.{doubled, idle, skipping, strays, unsettled}
 use Rattle.remarks.specs.TaskRemarks.{lone_sides}
-use Rattle.remarks.specs.Warnings.{calls_ahead, goes_on_closing, has_more, leads_out, starts_listable, takes_directory_at}
+use Rattle.remarks.specs.Warnings.{calls_ahead, goes_on_closing, has_more, starts_listable, takes_directory_at}
 use Rattle.lookup.specs.Paths.{is_absolute}
 use Rattle.remarks.specs.Ways.{from_which, rounds}
 use Rattle.task.specs.Policies.{grant_named}
@@ -142,18 +142,6 @@ absolute = refl
 
 relative : is_absolute (codes "etc/") ≡ false
 relative = refl
-
-abbrev tree : List Node
-tree = record { kind = File; place = codes "in" ∷ []; linked = true; content = [] } ∷ record { kind = Link; place = codes "a" ∷ codes "away" ∷ []; linked = true; content = [] } ∷ []
-
-up_leads_out : leads_out tree (codes "a/../in") ≡ true
-up_leads_out = refl
-
-link_leads_out : leads_out tree (codes "away") ≡ true
-link_leads_out = refl
-
-name_stays : leads_out tree (codes "a/in") ≡ false
-name_stays = refl
 
 -- The error of closing leads to a call, or to a halt alone.
 close_goes_on : goes_on_closing (calls_ahead (Invoke (Close (Number 0)) 1 ∷ Invoke (Read (Number 0)) 2 ∷ Halt ∷ [])) (Invoke (Close (Number 0)) 1) ≡ true

@@ -3,6 +3,7 @@ pub mod Remarks
 pub mod Listed
 pub mod RemarkViews
 pub mod TaskRemarks
+pub mod LinkNames
 pub mod Warnings
 pub mod Uses
 pub mod Marked

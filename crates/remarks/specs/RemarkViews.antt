@@ -4,7 +4,7 @@ use Rattle.certificate.specs.Bounds.{Bound}
 use Rattle.certificate.specs.Views.{bound_of}
 use Rattle.certificate.specs.declared.bounds.Bound.{Bound as BoundCode}
 use Rattle.instruction_set.specs.Views.{operand_of}
-use Rattle.remarks.specs.Warnings.{Lookup, one_beneath, Difference, Absolute_path, Way_out, Last_link, Commands_gone, No_number_left, Unlisted_look, Warned}
+use Rattle.remarks.specs.Warnings.{Lookup, one_beneath, Difference, Absolute_path, Way_out, Last_link, Commands_gone, No_number_left, One_number_left, Unlisted_look, Warned}
 use Rattle.remarks.specs.declared.warnings.Difference.{Difference as DifferenceCode}
 use Rattle.remarks.specs.declared.warnings.Difference.TheVariants as code
 use Rattle.remarks.specs.declared.looks.Looks.{Looks}
@@ -39,6 +39,7 @@ difference_of code.WayOut = Way_out
 difference_of code.LastLink = Last_link
 difference_of code.CommandsGone = Commands_gone
 difference_of code.NoNumberLeft = No_number_left
+difference_of code.OneNumberLeft = One_number_left
 difference_of code.UnlistedLook = Unlisted_look
 
 abbrev pub warned_of : Warnings → Warned

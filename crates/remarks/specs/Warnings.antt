@@ -1,17 +1,17 @@
 -- Where FreeBSD does otherwise than the model, at the points of a program that it matters to: each is a fact of a point, its instruction
 -- and its bound. (own, after open(2), cap_enter(2), cap_rights_limit(2), cap_fcntls_limit(2), close(2); what isn't in a page is remembered)
-use Rattle.std.specs.Prelude.{◌&&◌, ◌||◌, ◌==◌, ◌-◌, not, ℕ, Bool, true, false, List, [], ◌∷◌, Option, Some, None, codes, filter, is_some, length, map}
-use Rattle.std.specs.List.{list_all, list_any, range_with_len, slice_get}
+use Rattle.std.specs.Prelude.{◌&&◌, ◌||◌, ◌==◌, not, ℕ, Bool, true, false, if◌then◌else◌, List, [], ◌∷◌, Option, Some, None, codes, filter, is_some, map}
+use Rattle.std.specs.List.{list_all, list_any, range_with_len}
 use Rattle.std.specs.Str.{bytes_eq}
 use Rattle.rights.specs.OperationLists.{lists}
 use Rattle.rights.specs.Operations.{Look}
 use Rattle.rights.specs.Sets.{all_commands, all_rights, fcntl_right, is_within, lookup_right, read_right}
 use Rattle.rights.specs.Values.{DescriptorNumber, Name, PathText, RightSet}
-use Rattle.file_tree.specs.Nodes.{Node, is_dir, is_link, node}
+use Rattle.file_tree.specs.Nodes.{Node, is_dir, node}
 use Rattle.file_tree.specs.Places.{begins, slash}
 use Rattle.lookup.specs.Paths.{is_absolute}
 use Rattle.certificate.specs.Bounds.{Bound, Ceiling, Certificate, bound_at, Held, ModeBound, Off, On, Either, Slot, Target, In_grant, Any_node, Socket, Unknown, held_in}
-use Rattle.instruction_set.specs.Programs.{Instruction, Invoke, Operand, Syscall, Openat, Fstatat, Mkdirat, Unlinkat, Renameat, Cap_fcntls_limit, Cap_enter, Close}
+use Rattle.instruction_set.specs.Programs.{Instruction, Invoke, Operand, Syscall, Openat, Fstatat, Mkdirat, Unlinkat, Renameat, Cap_fcntls_limit, Cap_enter, Cap_getmode, Close}
 use Rattle.rights.specs.Limits.{most_descriptors}
 use Rattle.rules.specs.Authority.{authority_at}
 use Rattle.rules.specs.Demands.{demands}
@@ -20,6 +20,7 @@ use Rattle.rules.specs.Slots.{OpenSlot, may_be_on, slots_in}
 use Rattle.task.specs.Plans.{FirstDescriptor, FirstObject, On_end, On_node, Grant, NamedProgram, Plan, Start, program_name}
 use Rattle.task.specs.Policies.{grant_lists}
 use Rattle.texts.specs.Parts.{parts}
+use Rattle.remarks.specs.LinkNames.{names_link}
 use Rattle.remarks.specs.Remarks.{bound_here, held_here, holds_so, is_on_at, is_there, may_close}
 use Rattle.remarks.specs.Ways.{from_which, is_flagged, points}
 
@@ -51,23 +52,12 @@ is_unlimited h = (h.greatest == all_rights) && (h.greatest_fcntls == all_command
 abbrev pub are_limited : Bound → Operand → Bool
 are_limited b x = list_all (λ (s : OpenSlot). not (is_unlimited s.held)) (slots_in b x)
 
-abbrev pub is_last_name : Name → Option Name → Bool
-is_last_name name None = false
-is_last_name name (Some other) = bytes_eq other name
+-- it has a `..`, or a name that a link may have
+abbrev pub name_leads_out : Plan → Name → Bool
+name_leads_out plan name = bytes_eq name (codes "..") || names_link plan name
 
--- some link has this name
-abbrev pub is_link_of : Name → Node → Bool
-is_link_of name n = is_link n.kind && is_last_name name (slice_get n.place (length n.place - 1))
-
-abbrev pub names_link : List Node → Name → Bool
-names_link nodes name = list_any (is_link_of name) nodes
-
--- it has a `..`, or a link's name
-abbrev pub name_leads_out : List Node → Name → Bool
-name_leads_out nodes name = bytes_eq name (codes "..") || names_link nodes name
-
-abbrev pub leads_out : List Node → PathText → Bool
-leads_out nodes path = list_any (name_leads_out nodes) (parts slash path)
+abbrev pub leads_out : Plan → PathText → Bool
+leads_out plan path = list_any (name_leads_out plan) (parts slash path)
 
 -- ## What is warned of
 -- outside the mode the descriptor of an absolute path counts for nothing
@@ -75,9 +65,9 @@ abbrev pub passes_by : Bound → Syscall → Bool
 passes_by b call = may_be_off b.mode && list_any (λ (q : Lookup). is_absolute q.path) (beneath call)
 
 -- outside the mode `..` and links lead out of a directory that isn't limited
-abbrev pub goes_out : List Node → Bound → Syscall → Bool
-goes_out nodes b call =
-    may_be_off b.mode && list_any (λ (q : Lookup). leads_out nodes q.path && not (are_limited b q.descriptor)) (beneath call)
+abbrev pub goes_out : Plan → Bound → Syscall → Bool
+goes_out plan b call =
+    may_be_off b.mode && list_any (λ (q : Lookup). leads_out plan q.path && not (are_limited b q.descriptor)) (beneath call)
 
 -- outside the mode a file is made where a last link leads, beneath such a directory
 abbrev pub makes_beyond : Bound → Syscall → Bool
@@ -91,8 +81,19 @@ limits_nothing b (Cap_fcntls_limit x commands) =
 limits_nothing b _ = false
 
 -- a call takes a number, and all may be open
+abbrev pub are_all_open : List Slot → Bool
+are_all_open slots = list_all (λ (s : Slot). is_some (held_in s)) slots
+
 abbrev pub takes_beyond : Bound → Syscall → Bool
-takes_beyond b call = not ((demands call).takes == 0) && list_all (λ (s : Slot). is_some (held_in s)) b.slots
+takes_beyond b call = not ((demands call).takes == 0) && are_all_open b.slots
+
+-- a call takes two, and all but one may be open
+abbrev pub are_open_but_one : List Slot → Bool
+are_open_but_one [] = false
+are_open_but_one (s ∷ slots) = if is_some (held_in s) then are_open_but_one slots else are_all_open slots
+
+abbrev pub takes_one_beyond : Bound → Syscall → Bool
+takes_one_beyond b call = ((demands call).takes == 2) && are_open_but_one b.slots
 
 -- in the mode a call looks something up in a grant that doesn't list looking
 abbrev pub lets_look : List Grant → Target → Bool
@@ -106,7 +107,7 @@ looks_unlisted grants b call =
     may_be_on b.mode
     && list_any (λ (q : Lookup). not (list_all (λ (s : OpenSlot). lets_look grants s.held.target) (slots_in b q.descriptor))) (beneath call)
 
--- the error of closing, or of entering the mode, leads on to some call
+-- the error of closing, or of entering the mode or asking for it, leads on to some call
 abbrev pub is_call : Instruction → Bool
 is_call (Invoke call otherwise) = true
 is_call _ = false
@@ -120,6 +121,7 @@ goes_on_closing calls _ = false
 
 abbrev pub goes_on_entering : List Bool → Instruction → Bool
 goes_on_entering calls (Invoke Cap_enter otherwise) = is_flagged calls otherwise
+goes_on_entering calls (Invoke Cap_getmode otherwise) = is_flagged calls otherwise
 goes_on_entering calls _ = false
 
 -- what a call at a point with a bound may be otherwise by
@@ -129,14 +131,16 @@ pub data Difference : Type 0 where
   Last_link : Difference
   Commands_gone : Difference
   No_number_left : Difference
+  One_number_left : Difference
   Unlisted_look : Difference
 
 abbrev pub differs : Plan → Difference → Bound → Syscall → Bool
 differs plan Absolute_path b call = passes_by b call
-differs plan Way_out b call = goes_out plan.nodes b call
+differs plan Way_out b call = goes_out plan b call
 differs plan Last_link b call = makes_beyond b call
 differs plan Commands_gone b call = limits_nothing b call
 differs plan No_number_left b call = takes_beyond b call
+differs plan One_number_left b call = takes_one_beyond b call
 differs plan Unlisted_look b call = looks_unlisted plan.grants b call
 
 abbrev pub call_there : (Bound → Syscall → Bool) → Option Bound → Instruction → Bool
@@ -195,9 +199,9 @@ takes_directory_at plan program code bounds n point =
 
 -- ## What is warned of
 abbrev pub differences : List Difference
-differences = Absolute_path ∷ Way_out ∷ Last_link ∷ Commands_gone ∷ No_number_left ∷ Unlisted_look ∷ []
+differences = Absolute_path ∷ Way_out ∷ Last_link ∷ Commands_gone ∷ No_number_left ∷ One_number_left ∷ Unlisted_look ∷ []
 
--- at a point: by what its call is otherwise; whether the error of a close, or of entering the mode, goes on; and the numbers of which an
+-- at a point: by what its call is otherwise; whether the error of a close, or of entering the mode or asking for it, goes on; and the numbers of which an
 -- untrusted program takes more into the mode than a task can name, and those of directories whose grant doesn't list looking
 pub record Warned : Type 0 where
   pub differences : List Difference

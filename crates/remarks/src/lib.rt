@@ -7,6 +7,7 @@ mod bounded;
 pub mod directories;
 mod gathering;
 mod limits;
+mod link_names;
 mod looks;
 mod marked;
 mod point_test;

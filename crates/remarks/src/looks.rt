@@ -1,23 +1,22 @@
 //! What a call looks up beneath a descriptor, and what of it is otherwise in FreeBSD. (docs/FREEBSD.md)
 
-ghost use Rattle.std.specs.Prelude.{◌≡◌, ◌&&◌, ◌||◌, ◌==◌, None, Some, is_some, map, not, option_map};
+ghost use Rattle.std.specs.Prelude.{◌≡◌, ◌&&◌, ◌||◌, ◌==◌, None, Some, map, not, option_map};
 ghost use Rattle.std.specs.List.{list_all, list_any};
-ghost use Rattle.certificate.specs.Bounds.{held_in};
 ghost use Rattle.certificate.specs.Views.{bound_of, held_of, mode_of, slot_of, target_of};
 ghost use Rattle.instruction_set.specs.Views.{operand_of, syscall_of};
 ghost use Rattle.remarks.specs.RemarkViews.{beneath_of, look_of};
 ghost use Rattle.lookup.specs.Paths.{is_absolute};
-ghost use Rattle.remarks.specs.Warnings.{are_limited, beneath, goes_out, is_link_of, is_unlimited, leads_out, lets_look, limits_nothing};
-ghost use Rattle.remarks.specs.Warnings.{looks_unlisted, makes_beyond, may_be_off, name_leads_out, names_link, passes_by, takes_beyond};
+ghost use Rattle.remarks.specs.Warnings.{are_all_open, are_limited, are_open_but_one, beneath, goes_out, is_unlimited, leads_out, lets_look};
+ghost use Rattle.remarks.specs.Warnings.{limits_nothing, looks_unlisted, makes_beyond, may_be_off, name_leads_out, passes_by, takes_beyond, takes_one_beyond};
 ghost use Rattle.rights.specs.Sets.{fcntl_right, is_within};
 ghost use Rattle.rules.specs.Slots.{slots_in};
-ghost use Rattle.task.specs.Views.{grants_of, node_of, nodes_of};
+ghost use Rattle.task.specs.Views.{grants_of};
 
+use crate::link_names::names_link;
 use certificate::{Bound, Held, ModeBound, Slot, Target};
-use file_tree::Kind;
 use instruction_set::{Operand, Syscall};
 use rights::{Fcntls, Op, Rights};
-use task::{Grant, TaskNode, grant_lists};
+use task::{Grant, Task, grant_lists};
 use texts::first_part;
 use transfer::{SlotTest, Takes, all_slots_pass, demanded, may_be_on};
 
@@ -159,41 +158,24 @@ fn is_absolute(path: &[u8]) -> bool
     }
 }
 
-/// Whether a node is a link of a name.
-fn is_link_of(name: &[u8], node: &TaskNode) -> bool
-    ensures { result ≡ is_link_of name.now (node_of node.now) }
-{
-    matches!(node.kind, Kind::Link) && node.place.name() == Some(name)
-}
-
-/// Whether some link has a name.
-fn names_link(nodes: &[TaskNode], name: &[u8]) -> bool
-    ensures { result ≡ names_link (nodes_of nodes.now) name.now }
-{
-    match nodes {
-        [] => false,
-        [node, rest @ ..] => is_link_of(name, node) || names_link(rest, name),
-    }
-}
-
 /// Whether a name of a path may lead out of its directory.
-fn name_leads_out(nodes: &[TaskNode], name: &[u8]) -> bool
-    ensures { result ≡ name_leads_out (nodes_of nodes.now) name.now }
+fn name_leads_out(task: &Task, name: &[u8]) -> bool
+    ensures { result ≡ name_leads_out task.now name.now }
 {
-    name == b"..".as_slice() || names_link(nodes, name)
+    name == b"..".as_slice() || names_link(task, name)
 }
 
 /// Whether some name of a path may.
-fn leads_out(nodes: &[TaskNode], path: &[u8]) -> bool
-    ensures { result ≡ leads_out (nodes_of nodes.now) path.now }
+fn leads_out(task: &Task, path: &[u8]) -> bool
+    ensures { result ≡ leads_out task.now path.now }
 {
     let (first, behind) = first_part(path, b'/');
-    if name_leads_out(nodes, first) {
+    if name_leads_out(task, first) {
         return true;
     }
     match behind {
         None => false,
-        Some(rest) => leads_out(nodes, rest),
+        Some(rest) => leads_out(task, rest),
     }
 }
 
@@ -216,22 +198,22 @@ fn is_absolute_look(look: &Option<Look<'_>>) -> bool
 }
 
 /// Whether a path may lead out of a directory that isn't limited, if there is one.
-fn look_goes_out(nodes: &[TaskNode], bound: &Bound, look: &Option<Look<'_>>) -> bool
-    ensures { result ≡ list_any (λ q. leads_out (nodes_of nodes.now) q.path && not (are_limited (bound_of bound.now) q.descriptor)) (look_of look.now) }
+fn look_goes_out(task: &Task, bound: &Bound, look: &Option<Look<'_>>) -> bool
+    ensures { result ≡ list_any (λ q. leads_out task.now q.path && not (are_limited (bound_of bound.now) q.descriptor)) (look_of look.now) }
 {
     match look {
         None => false,
-        Some(look) => leads_out(nodes, look.path) && !are_limited(bound, look.descriptor),
+        Some(look) => leads_out(task, look.path) && !are_limited(bound, look.descriptor),
     }
 }
 
 /// Whether a call outside the mode may lead out of a directory that isn't limited.
-pub(crate) fn goes_out(nodes: &[TaskNode], bound: &Bound, call: &Syscall) -> bool
-    ensures { result ≡ goes_out (nodes_of nodes.now) (bound_of bound.now) (syscall_of call.now) }
+pub(crate) fn goes_out(task: &Task, bound: &Bound, call: &Syscall) -> bool
+    ensures { result ≡ goes_out task.now (bound_of bound.now) (syscall_of call.now) }
 {
     let looks = beneath(call);
     may_be_off(bound.mode())
-        && (look_goes_out(nodes, bound, &looks.first) || look_goes_out(nodes, bound, &looks.second))
+        && (look_goes_out(task, bound, &looks.first) || look_goes_out(task, bound, &looks.second))
 }
 
 /// Whether a call outside the mode may make a file where a last link leads, beneath a directory that isn't limited.
@@ -263,7 +245,7 @@ pub(crate) fn limits_nothing(bound: &Bound, call: &Syscall) -> bool
 
 /// Whether each of some slots may be open.
 fn are_all_open(slots: &[Slot]) -> bool
-    ensures { result ≡ list_all (λ s. is_some (held_in s)) (map slot_of slots.now) }
+    ensures { result ≡ are_all_open (map slot_of slots.now) }
 {
     match slots {
         [] => true,
@@ -280,6 +262,33 @@ pub(crate) fn takes_beyond(bound: &Bound, call: &Syscall) -> bool
         Takes::One | Takes::Two => true,
     };
     takes && are_all_open(bound.slots())
+}
+
+/// Whether each of some slots but one may be open.
+fn are_open_but_one(slots: &[Slot]) -> bool
+    ensures { result ≡ are_open_but_one (map slot_of slots.now) }
+{
+    match slots {
+        [] => false,
+        [slot, rest @ ..] => {
+            if slot.held().is_some() {
+                are_open_but_one(rest)
+            } else {
+                are_all_open(rest)
+            }
+        }
+    }
+}
+
+/// Whether a call takes two numbers, where all but one may be open.
+pub(crate) fn takes_one_beyond(bound: &Bound, call: &Syscall) -> bool
+    ensures { result ≡ takes_one_beyond (bound_of bound.now) (syscall_of call.now) }
+{
+    let takes = match demanded(call).takes {
+        Takes::Nothing | Takes::One => false,
+        Takes::Two => true,
+    };
+    takes && are_open_but_one(bound.slots())
 }
 
 /// Whether a path is looked up in a grant that doesn't list looking, if there is one.

@@ -17,6 +17,7 @@ ghost use Rattle.texts.specs.Views.{name_of};
 use crate::bounded::Bounded;
 use crate::looks::{
     goes_out, limits_nothing, looks_unlisted, makes_beyond, passes_by, takes_beyond,
+    takes_one_beyond,
 };
 use crate::point_test::PointTest;
 use crate::remarks::with_bounds;
@@ -42,6 +43,8 @@ pub enum Difference {
     CommandsGone,
     /// A process may have more than sixteen numbers.
     NoNumberLeft,
+    /// The same where a call takes two, and one may be left.
+    OneNumberLeft,
     /// In the mode something is looked up in a grant that doesn't list looking: READ lists names, and LOOKUP reads links.
     UnlistedLook,
 }
@@ -53,7 +56,7 @@ pub struct Warnings {
     pub differences: Vec<Difference>,
     /// The error of a close leads on, and the number may be free.
     pub failed_close: bool,
-    /// The error of cap_enter leads on, without a sandbox.
+    /// The error of cap_enter or cap_getmode leads on, without a sandbox.
     pub no_sandbox: bool,
     /// The numbers that an untrusted program takes into the mode with rights or commands of which FreeBSD has more.
     pub numbers: Vec<u32>,
@@ -62,12 +65,13 @@ pub struct Warnings {
 }
 
 /// By what calls may be otherwise, in the order in which it is told.
-const DIFFERENCES: [Difference; 6] = [
+const DIFFERENCES: [Difference; 7] = [
     Difference::AbsolutePath,
     Difference::WayOut,
     Difference::LastLink,
     Difference::CommandsGone,
     Difference::NoNumberLeft,
+    Difference::OneNumberLeft,
     Difference::UnlistedLook,
 ];
 
@@ -77,10 +81,11 @@ fn differs(task: &Task, difference: Difference, bound: &Bound, call: &Syscall) -
 {
     match difference {
         Difference::AbsolutePath => passes_by(bound, call),
-        Difference::WayOut => goes_out(task.nodes(), bound, call),
+        Difference::WayOut => goes_out(task, bound, call),
         Difference::LastLink => makes_beyond(bound, call),
         Difference::CommandsGone => limits_nothing(bound, call),
         Difference::NoNumberLeft => takes_beyond(bound, call),
+        Difference::OneNumberLeft => takes_one_beyond(bound, call),
         Difference::UnlistedLook => looks_unlisted(task.grants(), bound, call),
     }
 }
@@ -98,13 +103,13 @@ fn goes_on_closing(calls: &[bool], instruction: &Instruction) -> bool
     }
 }
 
-/// Whether the error of entering the mode does.
+/// Whether the error of entering the mode, or of asking for it, does.
 fn goes_on_entering(calls: &[bool], instruction: &Instruction) -> bool
     ensures { result ≡ goes_on_entering calls.now (instruction_of instruction.now) }
 {
     match instruction {
         Instruction::Invoke {
-            call: Syscall::CapEnter,
+            call: Syscall::CapEnter | Syscall::CapGetmode,
             otherwise,
         } => is_flagged(calls, usize::from(*otherwise)),
         _ => false,
@@ -205,7 +210,7 @@ impl<'a> Bounded<'a> {
         }
     }
 
-    /// Whether the error of entering the mode at a point does.
+    /// Whether the error of entering the mode at a point, or of asking for it, does.
     fn fails_entering(&self, calls: &[bool], point: usize) -> bool
         ensures { result ≡ is_there (code_of self.now.code.now) (goes_on_entering calls.now) point }
     {

@@ -9,7 +9,8 @@ use Rattle.remarks.proofs.bounded.Bounded.differences_at.Goals as goal
 
 abbrev all_differences : List Difference
 all_differences =
-    variants.AbsolutePath ∷ variants.WayOut ∷ variants.LastLink ∷ variants.CommandsGone ∷ variants.NoNumberLeft ∷ variants.UnlistedLook ∷ []
+    variants.AbsolutePath ∷ variants.WayOut ∷ variants.LastLink ∷ variants.CommandsGone ∷ variants.NoNumberLeft ∷ variants.OneNumberLeft
+    ∷ variants.UnlistedLook ∷ []
 
 pub returns : goal.returns
 returns c =
