@@ -6,3 +6,7 @@ pub mod Counted
 mod WordingRows
 pub mod Observing
 mod ObservedRows
+pub mod Writing
+mod FoldedLines
+mod ListedLines
+mod ListedRows

@@ -9,3 +9,5 @@ pub mod SceneViews
 pub mod RuleTexts
 pub mod Observed
 pub mod ObservedViews
+pub mod Listing
+pub mod ListingViews

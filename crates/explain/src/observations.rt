@@ -1,10 +1,13 @@
 //! What is observed on a program or a task, as values in words: remarks, and warnings where FreeBSD does otherwise.
 
-ghost use Rattle.std.specs.Prelude.{◌≡◌, ◌∷◌, [], OnOk, false, option_map};
+ghost use Rattle.std.specs.Prelude.{◌≡◌, ◌∷◌, [], OnOk, false, map, option_map};
 ghost use Rattle.std.specs.List.{slice_get};
+ghost use Rattle.task.specs.Plans.{program_name};
 ghost use Rattle.task.specs.Views.{program_of};
 ghost use Rattle.texts.specs.PageViews.{Adds};
-ghost use Rattle.explain.specs.ObservedViews.{AddsObserved};
+ghost use Rattle.explain.specs.Listing.{InOrder, TellsRemark, TellsWarning, first_point};
+ghost use Rattle.explain.specs.ListingViews.{AddsSome};
+ghost use Rattle.explain.specs.ObservedViews.{AddsObserved, headed};
 ghost use Rattle.explain.specs.TopicViews.{joint, observation_text, topic_name};
 ghost use Rattle.explain.specs.Wording.{is_next, joined_points, points_text, ranges_text};
 
@@ -116,16 +119,61 @@ pub fn line_of(observation: &Observation) -> Page
 }
 
 /// Adds a remark, as it stands in a listing.
-pub(crate) fn add_remark(page: &mut Page, indent: &'static str, observation: &Observation) {
+fn add_remark(page: &mut Page, indent: &'static str, observation: &Observation)
+    ensures { AddsSome (TellsRemark indent.now (headed observation.now)) page.old page.new }
+{
     let line = &mut Page::new(page.alloc());
-    say!(line; indent, "remark: ", &line_of(observation));
-    let lines = folded(line, 0);
-    say!(page; &lines, "\n");
+    say!(line; indent, "remark: ");
+    line.page(&line_of(observation));
+    page.page(&folded(line, 0));
+    say!(page; "\n")
+}
+
+/// Adds remarks, one behind another.
+pub(crate) fn add_remarks(page: &mut Page, indent: &'static str, remarks: &[Observation])
+    ensures { AddsSome (InOrder (TellsRemark indent.now) (map headed remarks.now)) page.old page.new }
+{
+    match remarks {
+        [] => {}
+        [first, rest @ ..] => {
+            add_remark(page, indent, first);
+            add_remarks(page, indent, rest)
+        }
+    }
+}
+
+/// The first of some points, as a number of 8 bits; 0 where there is none.
+fn first_point(points: &[usize]) -> u8
+    ensures { result ≡ first_point points.now }
+{
+    match points {
+        [] => 0,
+        [point, ..] => u8::try_from(*point).unwrap_or(u8::MAX),
+    }
 }
 
 /// Adds a warning, as it stands in a listing.
-pub(crate) fn add_warning(page: &mut Page, scene: &Scene<'_>, program: u8, warning: &Observation) {
-    let point = warning.points.first().copied().unwrap_or(0);
-    let place = scene.place(program, u8::try_from(point).unwrap_or(u8::MAX));
+fn add_warning(page: &mut Page, scene: &Scene<'_>, program: u8, warning: &Observation)
+    ensures { AddsSome (TellsWarning (program_name scene.now.task.now program) (headed warning.now)) page.old page.new }
+{
+    let place = scene.place(program, first_point(&warning.points));
     say!(page; "  FreeBSD: ", place, ": ", &warning.words, " (FREEBSD.md#", warning.topic.name(), ")\n")
+}
+
+/// Adds warnings, one behind another.
+pub(crate) fn add_warnings(
+    page: &mut Page,
+    scene: &Scene<'_>,
+    program: u8,
+    warnings: &[Observation],
+)
+    ensures { AddsSome (InOrder (TellsWarning (program_name scene.now.task.now program)) (map headed warnings.now)) page.old page.new }
+{
+    match warnings {
+        [] => {}
+        [first, rest @ ..] => {
+            add_warning(page, scene, program, first);
+            add_warnings(page, scene, program, rest)
+        }
+    }
 }
