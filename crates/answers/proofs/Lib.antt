@@ -4,3 +4,5 @@ pub mod LearntLaws
 pub mod PlannedLaws
 pub mod PlacingLaws
 pub mod Writes
+pub mod Recorded
+pub mod ShownLaws

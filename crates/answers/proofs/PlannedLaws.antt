@@ -1,47 +1,72 @@
 -- What is said of a plan, by what its parts say.
-use Rattle.std.proofs.Common.{◌≡◌, ℕ, Bool, true, false, List, [], ◌∷◌, ◌++◌, refl, subst, sym, ◌∙◌, inl, inr}
-use Rattle.std.specs.Prelude.{◌⊎◌, Ok}
+use Rattle.std.proofs.Common.{◌≡◌, ◌≤◌, ℕ, zero, suc, Bool, true, false, List, [], ◌∷◌, ◌++◌, refl, subst, sym, ◌∙◌, inl, inr, eqb-true, arith}
+use Rattle.std.specs.Prelude.{◌⊎◌, ◌&&◌, ◌==◌, Ok, Option, Some}
 use Rattle.certificate.specs.Bounds.{Certificate}
 use Rattle.checker.specs.Verdicts.{IsAccepted}
 use Rattle.console.specs.Files.{Files}
-use Rattle.explain.specs.TaskTexts.{IsTaskText}
 use Rattle.records.specs.Calls.{RecordedCalls}
-use Rattle.task.specs.Plans.{Plan}
+use Rattle.records.specs.Readings.{calls_of_text}
+use Rattle.task.specs.Plans.{Plan, is_marked}
 use Rattle.task_reader.specs.Reading.{task_of}
 use Rattle.texts.specs.Names.{is_name}
 use Rattle.answers.specs.Learnt.{AreCalls, WritesNothing}
-use Rattle.answers.specs.NoAnswers.{PlannedIsAccepted}
+use Rattle.answers.specs.NoAnswers.{PlannedIsAccepted, copying_and_connecting}
 use Rattle.answers.proofs.LearntLaws.{not_there}
-use Rattle.answers.proofs.NoAnswerLaws.{same_ok}
-use Rattle.answers.specs.Planned.{HearsCalls, IsAcceptable, IsHonest, SaysPlanned, WritesPlan, check_words, heading, last_words, marked_text, marked_words, plan_text}
+use Rattle.answers.proofs.NoAnswerLaws.{same_ok, same_some}
+use Rattle.answers.specs.Planned.{Claim, HearsCalls, IsAcceptable, IsHonest, IsMarkedAcceptable, IsUnmarkedTask, SaysPlanned, WritesPlan}
+use Rattle.answers.specs.Planned.{check_words, heading, is_whole, last_words, left_behind, left_words, marked_text, marked_words, plan_text}
 
 pub acceptable : (text : List ℕ) (plan : Plan) (bounds : Certificate) → task_of text ≡ Ok plan → IsAccepted plan bounds → IsAcceptable text
 acceptable text plan bounds is accepted = record { plan = plan; is_task = is; bounds = bounds; accepted = accepted }
 
-pub honest : (front name back : List ℕ) (trusted untrusted : Bool) → is_name name ≡ true → IsTaskText (plan_text front name back trusted untrusted)
-    → (trusted ≡ true → IsAcceptable (plan_text front name back trusted untrusted))
-    → (untrusted ≡ true → IsAcceptable (marked_text front name back trusted untrusted))
-    → IsHonest front name back trusted untrusted
-honest front name back trusted untrusted named is accepted marked =
-    record { named = named; plan = is.0; is_task = is.1; accepted = accepted; marked = marked }
+pub unmarked_task : (text name : List ℕ) (plan : Plan) → task_of text ≡ Ok plan → is_marked plan.programs name ≡ false → IsUnmarkedTask text name
+unmarked_task text name plan is unmarked = record { plan = plan; is_task = is; unmarked = unmarked }
 
-pub accepted : (front name back text : List ℕ) (untrusted : Bool) → IsHonest front name back true untrusted
-    → text ≡ plan_text front name back true untrusted → WritesPlan 0 text
-accepted front name back text untrusted is same =
-    record { front = front; name = name; back = back; trusted = true; untrusted = untrusted; honest = is; is_text = same; says = inl (refl, refl) }
+pub marked_acceptable : (text name : List ℕ) (plan : Plan) (bounds : Certificate) → task_of text ≡ Ok plan → is_marked plan.programs name ≡ true
+    → IsAccepted plan bounds → IsMarkedAcceptable text name
+marked_acceptable text name plan bounds is marked accepted =
+    record { plan = plan; is_task = is; marked = marked; bounds = bounds; accepted = accepted }
 
-pub unfound : (front name back text : List ℕ) (untrusted : Bool) → IsHonest front name back false untrusted
-    → text ≡ plan_text front name back false untrusted → WritesPlan 1 text
-unfound front name back text untrusted is same =
-    record { front = front; name = name; back = back; trusted = false; untrusted = untrusted; honest = is; is_text = same; says = inr (refl, refl) }
+pub honest : (front name back : List ℕ) (claim : Claim) → is_name name ≡ true → IsUnmarkedTask (plan_text front name back claim) name
+    → (claim.trusted ≡ true → IsAcceptable (plan_text front name back claim))
+    → (claim.untrusted ≡ true → IsMarkedAcceptable (marked_text front name back claim) name)
+    → IsHonest front name back claim
+honest front name back claim named unmarked accepted marked =
+    record { named = named; unmarked = unmarked; accepted = accepted; marked = marked }
 
-pub planned : (files : Files) (names : List (List ℕ)) (records : List RecordedCalls) (status : ℕ) (text : List ℕ) → AreCalls files names records
-    → WritesPlan status text ⊎ WritesNothing status text → SaysPlanned files names status text
-planned files names records status text are says = record { records = records; are_calls = are; says = says }
+pub whole : (line : ℕ) (records : List RecordedCalls) (front name back text : List ℕ) (claim : Claim) → IsHonest front name back claim
+    → text ≡ plan_text front name back claim → left_behind line records ≤ claim.left → is_whole claim ≡ true → WritesPlan line records 0 text
+whole line records front name back text claim is same counted all = record {
+  front = front;
+  name = name;
+  back = back;
+  claim = claim;
+  honest = is;
+  is_text = same;
+  counted = counted;
+  says = inl (refl, all);
+}
 
-pub nothing_planned : (files : Files) (names : List (List ℕ)) (records : List RecordedCalls) (status : ℕ) (text : List ℕ) → AreCalls files names records
-    → WritesNothing status text → SaysPlanned files names status text
-nothing_planned files names records status text are says = record { records = records; are_calls = are; says = inr says }
+pub not_whole : (line : ℕ) (records : List RecordedCalls) (front name back text : List ℕ) (claim : Claim) → IsHonest front name back claim
+    → text ≡ plan_text front name back claim → left_behind line records ≤ claim.left → is_whole claim ≡ false → WritesPlan line records 1 text
+not_whole line records front name back text claim is same counted some = record {
+  front = front;
+  name = name;
+  back = back;
+  claim = claim;
+  honest = is;
+  is_text = same;
+  counted = counted;
+  says = inr (refl, some);
+}
+
+pub planned : (files : Files) (line : ℕ) (names : List (List ℕ)) (records : List RecordedCalls) (status : ℕ) (text : List ℕ) → AreCalls files names records
+    → WritesPlan line records status text ⊎ WritesNothing status text → SaysPlanned files line names status text
+planned files line names records status text are says = record { records = records; are_calls = are; says = says }
+
+pub nothing_planned : (files : Files) (line : ℕ) (names : List (List ℕ)) (records : List RecordedCalls) (status : ℕ) (text : List ℕ) → AreCalls files names records
+    → WritesNothing status text → SaysPlanned files line names status text
+nothing_planned files line names records status text are says = record { records = records; are_calls = are; says = inr says }
 
 pub heard : (files : Files) (names : List (List ℕ)) (records : List RecordedCalls) (status : ℕ) → AreCalls files names records → status ≡ 0
     → HearsCalls files names status
@@ -52,22 +77,32 @@ no_certificate : (text : List ℕ) (plan : Plan) → task_of text ≡ Ok plan �
 no_certificate text plan is none said =
     none said.bounds (subst (λ (p : Plan). IsAccepted p said.bounds) (same_ok (task_of text) said.is_task is) said.accepted)
 
+-- a plan with nothing left says that a certificate is accepted, and counts nothing
+trusted_if : (trusted is_done : Bool) → (trusted && is_done) ≡ true → trusted ≡ true
+trusted_if true is_done is = refl
+trusted_if false is_done is = absurd cc
+
+none_if : (trusted : Bool) (left : ℕ) → (trusted && (left == 0)) ≡ true → left ≡ 0
+none_if true left is = eqb-true left 0 is
+none_if false left is = absurd cc
+
 not_accepted : (text : List ℕ) (plan : Plan) → task_of text ≡ Ok plan → ((bounds : Certificate) → IsAccepted plan bounds → ⊥)
-    → (front name back : List ℕ) (untrusted trusted : Bool) → IsHonest front name back trusted untrusted
-    → text ≡ plan_text front name back trusted untrusted → trusted ≡ true → ⊥
-not_accepted text plan is none front name back untrusted trusted said same claims =
+    → (front name back : List ℕ) (claim : Claim) → IsHonest front name back claim
+    → text ≡ plan_text front name back claim → claim.trusted ≡ true → ⊥
+not_accepted text plan is none front name back claim said same claims =
     no_certificate text plan is none (subst (λ (t : List ℕ). IsAcceptable t) (sym same) (said.accepted claims))
 
-said_whether : (status : ℕ) (text : List ℕ) (plan : Plan) → status ≡ 0 → task_of text ≡ Ok plan → ((bounds : Certificate) → IsAccepted plan bounds → ⊥)
-    → (said : WritesPlan status text) → ((status ≡ 0) × (said.trusted ≡ true)) ⊎ ((status ≡ 1) × (said.trusted ≡ false)) → ⊥
-said_whether status text plan zero is none said (inl claims) =
-    not_accepted text plan is none said.front said.name said.back said.untrusted said.trusted said.honest said.is_text claims.1
-said_whether status text plan zero is none said (inr claims) = let clash = sym zero ∙ claims.0 in cc
+is_whole_at : (status : ℕ) (claim : Claim) → status ≡ 0
+    → ((status ≡ 0) × (is_whole claim ≡ true)) ⊎ ((status ≡ 1) × (is_whole claim ≡ false)) → is_whole claim ≡ true
+is_whole_at status claim done (inl says) = says.1
+is_whole_at status claim done (inr says) = let clash = sym done ∙ says.0 in cc
 
-no_plan : (text : List ℕ) (plan : Plan) → task_of text ≡ Ok plan → ((bounds : Certificate) → IsAccepted plan bounds → ⊥)
-    → WritesPlan 0 text ⊎ WritesNothing 0 text → ⊥
-no_plan text plan is none (inl said) = said_whether 0 text plan refl is none said said.says
-no_plan text plan is none (inr said) = let clash = said.0 in cc
+no_plan : (line : ℕ) (records : List RecordedCalls) (text : List ℕ) (plan : Plan) → task_of text ≡ Ok plan → ((bounds : Certificate) → IsAccepted plan bounds → ⊥)
+    → WritesPlan line records 0 text ⊎ WritesNothing 0 text → ⊥
+no_plan line records text plan is none (inl said) =
+    not_accepted text plan is none said.front said.name said.back said.claim said.honest said.is_text
+    (trusted_if said.claim.trusted (said.claim.left == 0) (is_whole_at 0 said.claim refl said.says))
+no_plan line records text plan is none (inr said) = let clash = said.0 in cc
 
 first_empty : (first second : List ℕ) → first ++ second ≡ [] → first ≡ []
 first_empty [] second is = refl
@@ -81,21 +116,49 @@ some_words : (trusted : Bool) → check_words trusted ≡ [] → ⊥
 some_words true is = cc
 some_words false is = cc
 
-never_silent : WritesPlan 0 [] ⊎ WritesNothing 0 [] → ⊥
-never_silent (inl said) =
-    let words = last_words said.trusted said.untrusted said.name in
+never_silent : (line : ℕ) (records : List RecordedCalls) → WritesPlan line records 0 [] ⊎ WritesNothing 0 [] → ⊥
+never_silent line records (inl said) =
+    let words = last_words said.claim said.name in
     let behind = second_empty (heading said.name) (said.back ++ words) (second_empty said.front (heading said.name ++ (said.back ++ words)) (sym said.is_text)) in
-    some_words said.trusted (first_empty (check_words said.trusted) (said.name ++ marked_words said.untrusted) (second_empty said.back words behind))
-never_silent (inr said) = let clash = said.0 in cc
+    some_words said.claim.trusted (first_empty (check_words said.claim.trusted) (left_words said.claim.left ++ marked_words said.name said.claim.untrusted)
+    (second_empty said.back words behind))
+never_silent line records (inr said) = let clash = said.0 in cc
 
-never_marked : (front name back : List ℕ) (trusted : Bool) → ((plan : Plan) (bounds : Certificate) → task_of (marked_text front name back trusted true) ≡ Ok plan
-    → IsAccepted plan bounds → ⊥) → IsHonest front name back trusted true → ⊥
-never_marked front name back trusted none said = let claim = said.marked refl in none claim.plan claim.bounds claim.is_task claim.accepted
+never_fitting : (front name back : List ℕ) (claim : Claim) → claim.untrusted ≡ true → ((plan : Plan) (bounds : Certificate)
+    → task_of (marked_text front name back claim) ≡ Ok plan → IsAccepted plan bounds → ⊥) → IsHonest front name back claim → ⊥
+never_fitting front name back claim claims none said = let is = said.marked claims in none is.plan is.bounds is.is_task is.accepted
+
+never_unmarked : (front name back : List ℕ) (claim : Claim) (plan : Plan) → claim.untrusted ≡ true → task_of (marked_text front name back claim) ≡ Ok plan
+    → is_marked plan.programs name ≡ false → IsHonest front name back claim → ⊥
+never_unmarked front name back claim plan claims is unmarked said =
+    let own = said.marked claims in
+    let same = same_ok (task_of (marked_text front name back claim)) own.is_task is in
+    let clash = sym own.marked ∙ ((λ k. is_marked (same k).programs name) ∙ unmarked) in cc
+
+one_is_left : (claim : Claim) → 1 ≤ claim.left → is_whole claim ≡ true → ⊥
+one_is_left claim some all = let none = none_if claim.trusted claim.left all in let clash = subst (λ (n : ℕ). 1 ≤ n) none some in omega (arith, clash)
+
+counts_one : (records : List RecordedCalls) (written : List ℕ) → (rest : List RecordedCalls) → records ≡ copying_and_connecting ∷ rest
+    → WritesPlan 1 records 0 written ⊎ WritesNothing 0 written → ⊥
+counts_one records written rest same (inl said) =
+    one_is_left said.claim (subst (λ (rs : List RecordedCalls). left_behind 1 rs ≤ said.claim.left) same said.counted) (is_whole_at 0 said.claim refl said.says)
+counts_one records written rest same (inr said) = let clash = said.0 in cc
+
+never_refused : (files : List ℕ → Option (List ℕ)) (calls calls_text : List ℕ) (records : List RecordedCalls) (written : List ℕ)
+    → files calls ≡ Some calls_text → calls_of_text calls_text ≡ Ok copying_and_connecting → AreCalls (Some files) (calls ∷ []) records
+    → WritesPlan 1 records 0 written ⊎ WritesNothing 0 written → ⊥
+never_refused files calls calls_text [] written is_file are heard says = absurd heard
+never_refused files calls calls_text (own ∷ rest) written is_file are heard says =
+    let same : own ≡ copying_and_connecting =
+    same_ok (calls_of_text calls_text) (sym (λ k. calls_of_text (same_some (sym heard.0.file ∙ is_file) k)) ∙ heard.0.is) are in
+    counts_one (own ∷ rest) written rest (λ k. same k ∷ rest) says
 
 pub planned_is_accepted : PlannedIsAccepted
 planned_is_accepted = record {
-  unfit = λ files line calls text plan is none answers. no_plan text plan is none answers.says;
-  silent = λ files line calls answers. never_silent answers.says;
-  unmarked = λ front name back trusted none said. never_marked front name back trusted none said;
+  unfit = λ files line calls text plan is none answers. no_plan line answers.records text plan is none answers.says;
+  silent = λ files line calls answers. never_silent line answers.records answers.says;
+  unfit_marked = λ front name back claim claims none said. never_fitting front name back claim claims none said;
+  unmarked = λ front name back claim plan claims is unmarked said. never_unmarked front name back claim plan claims is unmarked said;
+  refused = λ files calls calls_text written is_file are answers. never_refused files calls calls_text answers.records written is_file are answers.are_calls answers.says;
   missing = λ files line calls status written missing answers. not_there files calls answers.records missing answers.are_calls;
 }

@@ -1,5 +1,5 @@
 -- What is written, by what stands on its page.
-use Rattle.std.proofs.Common.{◌≡◌, ℕ, true, List, [], ◌++◌, length, map, refl, inl, inr, ap, subst, ◌∙◌}
+use Rattle.std.proofs.Common.{◌≡◌, ℕ, List, [], ◌++◌, map, refl, inl, inr, ap, ◌∙◌}
 use Rattle.std.specs.Prelude.{codes, Some}
 use Rattle.explore.specs.BreachViews.{breach_of}
 use Rattle.explore.specs.FoundViews.{IsAttacked, IsFound}
@@ -9,13 +9,10 @@ use Rattle.explore.specs.declared.exploring.FoundRun.{FoundRun}
 use Rattle.follow.specs.Places.{Placing}
 use Rattle.follow.specs.Shows.{IsShown, Witness, events_of}
 use Rattle.kernel.specs.Answers.{Event}
-use Rattle.records.specs.Accounts.{ListTheOthers}
-use Rattle.records.specs.Calls.{RecordedCalls, are_calls}
-use Rattle.records.specs.Texts.{calls_text}
+use Rattle.records.specs.Calls.{RecordedCalls}
 use Rattle.syscalls.specs.Views.{event_of}
 use Rattle.task.specs.Plans.{Plan}
-use Rattle.texts.specs.Lines.{lines_of}
-use Rattle.answers.specs.Answered.{SaysCalls, SaysFollowed, SaysRefuted, SaysScheduled, SaysWhether}
+use Rattle.answers.specs.Answered.{SaysFollowed, SaysRefuted, SaysScheduled}
 
 pub schedule_written : (status : ℕ) (first scheduled all text tally : List ℕ) (events seen : List Event) → status ≡ 0 → first ≡ []
     → scheduled ≡ first ++ schedule_text seen → all ≡ scheduled ++ (codes "\n" ++ tally) → text ≡ all → seen ≡ events
@@ -31,19 +28,6 @@ pub run_followed : (plan : Plan) (placings : List Placing) (calls : RecordedCall
     → IsShown plan placings calls witness → SaysScheduled (events_of witness.moves) status text → SaysFollowed plan placings calls status text
 run_followed plan placings calls witness status text shown (inl writes) = inl (writes.0, record { witness = witness; is_shown = shown; is_text = writes.1 })
 run_followed plan placings calls witness status text shown (inr parts) = inr parts
-
-pub calls_written : (record_text : List ℕ) (status : ℕ) (calls seen : RecordedCalls) (misread silent unread : List ℕ) (first all text : List ℕ)
-    → are_calls calls ≡ true → ListTheOthers (length (lines_of record_text)) calls misread silent → first ≡ [] → all ≡ first ++ calls_text seen → seen ≡ calls → text ≡ all
-    → unread ≡ misread → SaysWhether status (unread ≡ []) → SaysCalls record_text status text
-calls_written record_text status calls seen misread silent unread first all text within others empty adds same whole is says = record {
-  calls = calls;
-  within = within;
-  misread = misread;
-  silent = silent;
-  others = others;
-  is_text = whole ∙ adds ∙ ap (λ t. t ++ calls_text seen) empty ∙ ap calls_text same;
-  says = subst (λ (lines : List ℕ). SaysWhether status (lines ≡ [])) is says;
-}
 
 pub run_refutes : (plan : Plan) (found : FoundRun) (text : List ℕ) → IsFound plan found
     → WritesDetailed plan (map event_of found.events.items) (breach_of found.breach) found.detail.items (Some []) (Some text) → SaysRefuted plan 1 text

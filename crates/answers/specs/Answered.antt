@@ -1,5 +1,5 @@
 -- What is answered to what was asked: what the status says of it, and what is written. (own)
-use Rattle.std.specs.Prelude.{◌≡◌, ◌⊎◌, ◌++◌, ℕ, true, List, [], length, codes, Option, None, Some, Ok}
+use Rattle.std.specs.Prelude.{◌≡◌, ◌⊎◌, ◌++◌, ℕ, Bool, false, true, List, [], ◌∷◌, length, codes, Option, None, Some, Ok}
 use Rattle.rights.specs.Output.{Took}
 use Rattle.certificate.specs.Bounds.{Certificate}
 use Rattle.certificate_text.specs.Readings.{certificate_of_text}
@@ -16,6 +16,7 @@ use Rattle.follow.specs.Shows.{IsShown, Witness, events_of}
 use Rattle.records.specs.Accounts.{ListTheOthers}
 use Rattle.records.specs.Calls.{RecordedCalls, are_calls}
 use Rattle.records.specs.Readings.{calls_of_text}
+use Rattle.records.specs.Runs.{another_run}
 use Rattle.records.specs.Texts.{calls_text}
 use Rattle.task.specs.Plans.{Plan}
 use Rattle.task_reader.specs.Reading.{task_of}
@@ -133,7 +134,18 @@ pub record SaysOfTask (files : Files) (name : List ℕ) (status : ℕ) (written 
   pub is_task : task_of text ≡ Ok plan
   pub says : SaysOffered plan status written
 
--- Of a record's text calls are written that are within the limits, and each line has one of them or is among the others; 0 says that every line is understood.
+-- something was recorded
+abbrev pub has_calls : RecordedCalls → Bool
+has_calls [] = false
+has_calls (entry ∷ calls) = true
+
+-- A record is one of one run: every line is understood, something was recorded, and no other run begins in it.
+pub record IsOfOneRun (calls : RecordedCalls) (misread : List ℕ) : Type 0 where
+  pub understood : misread ≡ []
+  pub heard : has_calls calls ≡ true
+  pub alone : another_run calls ≡ None
+
+-- Of a record's text calls are written that are within the limits, and each line has one of them or is among the others; 0 says that it is of one run.
 pub record SaysCalls (text : List ℕ) (status : ℕ) (written : List ℕ) : Type 0 where
   pub calls : RecordedCalls
   pub within : are_calls calls ≡ true
@@ -141,7 +153,7 @@ pub record SaysCalls (text : List ℕ) (status : ℕ) (written : List ℕ) : Typ
   pub silent : List ℕ
   pub others : ListTheOthers (length (lines_of text)) calls misread silent
   pub is_text : written ≡ calls_text calls
-  pub says : SaysWhether status (misread ≡ [])
+  pub says : SaysWhether status (IsOfOneRun calls misread)
 
 pub record SaysOfRecord (files : Files) (name : List ℕ) (status : ℕ) (written : List ℕ) : Type 0 where
   pub text : List ℕ
@@ -197,7 +209,7 @@ Answers files (Faulty task) status written = SaysOfFile files task status
 Answers files (Calls file) status written = SaysOfRecord files file status written
 Answers files (Followed task calls places) status written = SaysOfFollowing files task calls places status written
 Answers files (Learnt calls) status written = SaysLearnt files calls status written
-Answers files (Planned line calls) status written = SaysPlanned files calls status written
+Answers files (Planned line calls) status written = SaysPlanned files line calls status written
 Answers files (NamesLeft calls) status written = HearsCalls files calls status
 
 -- The words ask something, it is answered, and that is written behind what was written before.

@@ -1,8 +1,11 @@
 pub mod PlacingWords
 pub mod PlacingViews
+pub mod ClaimViews
 pub mod Learnt
 pub mod Planned
 pub mod Questions
 pub mod QuestionViews
 pub mod Answered
 pub mod NoAnswers
+pub mod RunViews
+pub mod FoundViews

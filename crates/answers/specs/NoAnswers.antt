@@ -1,18 +1,21 @@
 -- What is no answer. (own)
-use Rattle.std.specs.Prelude.{◌≡◌, ℕ, Bool, false, true, List, [], ◌∷◌, Option, Some, None, Ok}
+use Rattle.std.specs.Prelude.{◌≡◌, ℕ, Bool, false, true, List, [], ◌∷◌, Option, Some, None, Ok, codes}
 use Rattle.certificate.specs.Bounds.{Certificate}
 use Rattle.certificate_text.specs.Readings.{certificate_of_text}
 use Rattle.checker.specs.Findings.{BrokenRule}
 use Rattle.checker.specs.Verdicts.{IsAccepted}
+use Rattle.follow.specs.Excused.{are_excused, tallied}
+use Rattle.follow.specs.Places.{Placing}
 use Rattle.follow.specs.Shows.{IsShown, Witness}
-use Rattle.records.specs.Calls.{RecordedCalls}
+use Rattle.records.specs.Calls.{Called, Global, Number, Omitted, RecordEntry, RecordedCalls, RecordedEvent, Succeeds}
+use Rattle.rights.specs.Calls as calls
 use Rattle.records.specs.Readings.{calls_of_text}
 use Rattle.searcher.specs.Flat.{flat}
-use Rattle.task.specs.Plans.{Plan}
+use Rattle.task.specs.Plans.{Plan, is_marked}
 use Rattle.task_reader.specs.Reading.{task_of}
 use Rattle.answers.specs.Answered.{Answers, AnswersWords}
 use Rattle.answers.specs.PlacingWords.{placings_in}
-use Rattle.answers.specs.Planned.{IsHonest, marked_text}
+use Rattle.answers.specs.Planned.{Claim, IsHonest, marked_text}
 use Rattle.answers.specs.Questions.{Broken, Calls, Followed, Learnt, Log, Planned, Unfound, question_in}
 use Rattle.explain.specs.TaskTexts.{IsTaskText}
 use Rattle.explain.specs.Telling.{HasHead}
@@ -54,21 +57,35 @@ pub record RecordsAreHeard : Type 0 where
   pub unwritten : (files : List ℕ → Option (List ℕ)) (task calls : List ℕ) (places : List (List ℕ))
       → Answers (Some files) (Followed task calls places) 0 [] → ⊥
 
--- status 0 to `learn` of calls that no run of any task shows; and any, where there is no such file
+-- status 0 to `learn` of calls that no run of any task shows which skips only what is excused; and any, where there is no such file
 pub record LearntIsFollowed : Type 0 where
   pub unshown : (files : List ℕ → Option (List ℕ)) (calls calls_text : List ℕ) (recorded : RecordedCalls) (written : List ℕ)
-      → files calls ≡ Some calls_text → calls_of_text calls_text ≡ Ok recorded → ((plan : Plan) (witness : Witness) → IsShown plan [] recorded witness → ⊥)
+      → files calls ≡ Some calls_text → calls_of_text calls_text ≡ Ok recorded → ((plan : Plan) (placings : List Placing) (witness : Witness) → IsShown plan placings recorded witness
+      → are_excused (tallied placings recorded witness.moves) ≡ true → ⊥)
       → Answers (Some files) (Learnt (calls ∷ [])) 0 written → ⊥
   pub missing : (files : List ℕ → Option (List ℕ)) (calls : List ℕ) (status : ℕ) (written : List ℕ) → files calls ≡ None
       → Answers (Some files) (Learnt (calls ∷ [])) status written → ⊥
 
+-- a process that copies a descriptor, and then connects
+abbrev pub at_line : ℕ → RecordedEvent → RecordEntry
+at_line line event = record { span = record { first = line; last = line }; process = 9; event = event }
+
+abbrev pub copying_and_connecting : RecordedCalls
+copying_and_connecting =
+    at_line 1 (Called (record { call = calls.Dup; operands = Number 0 ∷ []; outcome = Succeeds 3; bindings = []; bytes = None }))
+    ∷ at_line 2 (Omitted (record { reason = Global; name = codes "connect"; wanted = None })) ∷ []
+
 -- status 0 to `plan` where what is written is the text of a task that no certificate fits, or nothing; the word that a certificate of the marked task is accepted, where
--- none is; and any status, where there is no such file
+-- none is, or the program isn't marked; status 0 where the process of the line makes a call behind it that the mode refuses; and any status, where there is no such file
 pub record PlannedIsAccepted : Type 0 where
   pub unfit : (files : List ℕ → Option (List ℕ)) (line : ℕ) (calls text : List ℕ) (plan : Plan) → task_of text ≡ Ok plan
       → ((bounds : Certificate) → IsAccepted plan bounds → ⊥) → Answers (Some files) (Planned line (calls ∷ [])) 0 text → ⊥
   pub silent : (files : List ℕ → Option (List ℕ)) (line : ℕ) (calls : List ℕ) → Answers (Some files) (Planned line (calls ∷ [])) 0 [] → ⊥
-  pub unmarked : (front name back : List ℕ) (trusted : Bool) → ((plan : Plan) (bounds : Certificate) → task_of (marked_text front name back trusted true) ≡ Ok plan
-      → IsAccepted plan bounds → ⊥) → IsHonest front name back trusted true → ⊥
+  pub unfit_marked : (front name back : List ℕ) (claim : Claim) → claim.untrusted ≡ true → ((plan : Plan) (bounds : Certificate)
+      → task_of (marked_text front name back claim) ≡ Ok plan → IsAccepted plan bounds → ⊥) → IsHonest front name back claim → ⊥
+  pub unmarked : (front name back : List ℕ) (claim : Claim) (plan : Plan) → claim.untrusted ≡ true → task_of (marked_text front name back claim) ≡ Ok plan
+      → is_marked plan.programs name ≡ false → IsHonest front name back claim → ⊥
+  pub refused : (files : List ℕ → Option (List ℕ)) (calls calls_text written : List ℕ) → files calls ≡ Some calls_text
+      → calls_of_text calls_text ≡ Ok copying_and_connecting → Answers (Some files) (Planned 1 (calls ∷ [])) 0 written → ⊥
   pub missing : (files : List ℕ → Option (List ℕ)) (line : ℕ) (calls : List ℕ) (status : ℕ) (written : List ℕ) → files calls ≡ None
       → Answers (Some files) (Planned line (calls ∷ [])) status written → ⊥

@@ -30,8 +30,9 @@ pub fn what_is_learnt_is_followed()
     ensures { LearntIsFollowed }
 {}
 
-/// 0 is no answer to `plan` where the text of a task that no certificate fits is written, or nothing; no plan says that a certificate of the marked
-/// task is accepted where none is; and nothing is an answer of a file that isn't there. (own)
+/// 0 is no answer to `plan` where the text of a task that no certificate fits is written, or nothing, nor where the process of the line makes a call
+/// behind it that the mode refuses; no plan says that a certificate of the marked task is accepted where none is, or where the program isn't marked; and
+/// nothing is an answer of a file that isn't there. (own)
 pub fn what_is_planned_is_accepted()
     ensures { PlannedIsAccepted }
 {}

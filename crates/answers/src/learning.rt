@@ -1,17 +1,20 @@
 //! A task, of recorded calls.
 
-ghost use Rattle.std.specs.Prelude.{◌≡◌, ◌++◌, ◌∷◌, [], IfOk, None, Ok, map, string_bytes, true};
-ghost use Rattle.answers.specs.Learnt.{AreCalls, AreFollowed, IsFollowed, SaysLearnt, WritesNothing, WritesTask};
+ghost use Rattle.std.specs.Prelude.{◌≡◌, ◌⊎◌, ◌++◌, ◌∷◌, [], IfOk, IfSome, Ok, Some, map, string_bytes, true};
+ghost use Rattle.std.specs.List.{flat_map, list_all};
+ghost use Rattle.answers.specs.Learnt.{AreCalls, AreShown, SaysLearnt, StandsIn, WritesNothing, WritesTask, calls_in, has_excuses, placings_text, run_text};
+ghost use Rattle.answers.specs.RunViews.{runs_of};
+ghost use Rattle.follow.specs.Views.{placings_of};
 ghost use Rattle.records.specs.EntryViews.{calls_seen};
 ghost use Rattle.task_reader.specs.Reading.{task_of};
 
 use crate::answers::Answer;
-use crate::following::most_states;
 use crate::refusals::Refusal;
+use crate::showing::{Found, Run, add_runs, are_excused, are_shown, runs_found, says_placings};
 use crate::usage::NAME;
 use console::Source;
 use console::statuses::{BROKEN, DONE};
-use follow::{Followed, Placing, follow};
+use follow::Placing;
 use learner::{LearnFault, LearntTask, Renaming, learn};
 use records::{Entry, read_calls};
 use rights::Memory;
@@ -44,30 +47,8 @@ pub(crate) fn calls_of_files<'a, S: Source>(
     Ok(records)
 }
 
-/// Whether a run of a task is found that shows a record's calls.
-fn is_followed(alloc: Global, task: &Task, entries: &[Entry]) -> Result<bool, Memory>
-    ensures { IfOk result (λ is. is ≡ true → IsFollowed task.now (calls_seen entries.now)) }
-{
-    match follow(alloc, task, &[], entries, most_states(entries))? {
-        Followed::Follows(_) => Ok(true),
-        Followed::Parts(_) => Ok(false),
-    }
-}
-
-/// The place of the first record for which no run of a task is found that shows its calls.
-fn first_lost(alloc: Global, task: &Task, records: &[Vec<Entry>]) -> Result<Option<usize>, Memory>
-    ensures { IfOk result (λ lost. lost ≡ None → AreFollowed task.now (map (λ entries. calls_seen entries.items) records.now)) }
-{
-    for (at, entries) in records.iter().enumerate() {
-        if !is_followed(alloc, task, entries)? {
-            return Ok(Some(at));
-        }
-    }
-    Ok(None)
-}
-
 /// Where the records' places lie in a task that was learnt.
-fn placings_of(alloc: Global, renamings: &[Renaming]) -> Result<Vec<Placing>, Memory> {
+fn places_of(alloc: Global, renamings: &[Renaming]) -> Result<Vec<Placing>, Memory> {
     let mut placings = Vec::new(alloc);
     for renaming in renamings {
         let real = renaming.real.clone()?;
@@ -77,43 +58,18 @@ fn placings_of(alloc: Global, renamings: &[Renaming]) -> Result<Vec<Placing>, Me
     Ok(placings)
 }
 
-/// The place of the first record for which no run of a task is found that shows its calls, with its places so.
-fn first_lost_with(
-    alloc: Global,
-    task: &Task,
-    placings: &[Placing],
-    records: &[Vec<Entry>],
-) -> Result<Option<usize>, Memory> {
-    for (at, entries) in records.iter().enumerate() {
-        let followed = follow(alloc, task, placings, entries, most_states(entries))?;
-        if matches!(followed, Followed::Parts(_)) {
-            return Ok(Some(at));
-        }
-    }
-    Ok(None)
+/// That no run of a task was found that shows the calls of a file.
+fn lost_words(alloc: Global, at: usize) -> Result<Vec<u8>, Memory> {
+    let mut told = Page::new(alloc);
+    say!(&mut told; NAME, ": no run was found that shows the calls of file ", at.saturating_add(1), "\n");
+    Ok(told.into_bytes()?)
 }
 
-/// Tells for which record no run of a task was found, and whether one is found by the words of the task's head.
-fn add_lost(
-    alloc: Global,
-    told: &mut Page,
-    task: &Task,
-    renamings: &[Renaming],
-    records: &[Vec<Entry>],
-    at: usize,
-) -> Result<(), Memory> {
-    say!(told; NAME, ": no run was found that shows the calls of file ", at.saturating_add(1));
-    if !renamings.is_empty() {
-        let placings = placings_of(alloc, renamings)?;
-        match first_lost_with(alloc, task, &placings, records)? {
-            None => told.bytes(b"; by the words of the task's head one is found for each file"),
-            Some(other) => {
-                say!(told; "; by the words of the task's head none is found for file ", other.saturating_add(1));
-            }
-        }
-    }
-    told.bytes(b"\n");
-    Ok(())
+/// That calls are skipped which aren't excused.
+fn skipped_words(alloc: Global) -> Result<Vec<u8>, Memory> {
+    let mut told = Page::new(alloc);
+    say!(&mut told; NAME, ": no run was found that skips only what a task can't have: see the last lines\n");
+    Ok(told.into_bytes()?)
 }
 
 /// Why nothing is learnt.
@@ -148,31 +104,117 @@ pub(crate) fn nothing(alloc: Global, why: &str) -> Result<Answer, Memory>
     })
 }
 
-/// The text of a task, with the first record told for which no run of it is found.
-#[tactic(auto, using(crate::proofs::LearntLaws::all_followed, crate::proofs::LearntLaws::one_lost))]
+/// A text with lines behind it.
+fn with_lines(alloc: Global, text: &[u8], lines: &[u8]) -> Result<Vec<u8>, Memory>
+    ensures { IfOk result (λ written. written.items ≡ text.now ++ lines.now) }
+{
+    let mut written = Vec::from_slice(alloc, text)?;
+    written.extend_from_slice(lines)?;
+    Ok(written)
+}
+
+/// Whether runs show their records, a text says where the records' places lie, and what they skip is excused.
+fn is_all_shown(
+    alloc: Global,
+    task: &Task,
+    text: &[u8],
+    is_excused: bool,
+    placings: &[Placing],
+    runs: &[Run<'_>],
+) -> Result<bool, Memory>
+    ensures excused { IfOk result (λ is. is ≡ true → is_excused ≡ true) }
+    ensures says { IfOk result (λ is. is ≡ true → StandsIn (placings_text (placings_of placings.now)) text.now) }
+    ensures shown { IfOk result (λ is. is ≡ true → AreShown task.now (placings_of placings.now) (runs_of runs.now)) }
+{
+    if !is_excused {
+        return Ok(false);
+    }
+    if !says_placings(alloc, placings, text)? {
+        return Ok(false);
+    }
+    are_shown(alloc, task, placings, runs)
+}
+
+/// A task's text with lines behind it that say what its runs show and skip. What is answered is asked of the task that is written.
+#[tactic(auto, using(crate::proofs::LearntLaws::all_shown, crate::proofs::LearntLaws::some_skipped))]
+fn shown_answer(
+    alloc: Global,
+    text: &[u8],
+    lines: &[u8],
+    is_excused: bool,
+    placings: &[Placing],
+    runs: &[Run<'_>],
+) -> Result<Option<Answer>, Memory>
+    requires excused { is_excused ≡ true → list_all (has_excuses (placings_of placings.now)) (runs_of runs.now) ≡ true }
+    requires lines { lines.now ≡ flat_map (run_text (placings_of placings.now)) (runs_of runs.now) }
+    ensures { IfOk result (λ answer. IfSome answer (λ a. WritesTask (map calls_in (runs_of runs.now)) a.status a.text.items)) }
+{
+    let written = with_lines(alloc, text, lines)?;
+    let task = match read_task(alloc, &written) {
+        Ok(task) => task,
+        Err(TaskFault::Memory) => return Err(Memory),
+        Err(_) => return Ok(None),
+    };
+    if is_all_shown(alloc, &task, text, is_excused, placings, runs)? {
+        return Ok(Some(Answer::new(alloc, written, DONE)));
+    }
+    Ok(Some(Answer {
+        text: written,
+        told: skipped_words(alloc)?,
+        status: BROKEN,
+    }))
+}
+
+/// A task's text with what these runs show and skip, if that is a task's text, too.
+fn told_answer(
+    alloc: Global,
+    text: &[u8],
+    placings: &[Placing],
+    runs: &[Run<'_>],
+) -> Result<Option<Answer>, Memory>
+    ensures { IfOk result (λ answer. IfSome answer (λ a. WritesTask (map calls_in (runs_of runs.now)) a.status a.text.items)) }
+{
+    let mut page = Page::new(alloc);
+    add_runs(alloc, &mut page, placings, runs)?;
+    let lines = page.into_bytes()?;
+    let is_excused = are_excused(alloc, placings, runs)?;
+    shown_answer(alloc, text, &lines, is_excused, placings, runs)
+}
+
+/// The text of a task, with what is shown of the records behind it, or with the first one told for which no run of it is found.
+#[tactic(auto, using(crate::proofs::LearntLaws::one_lost))]
 fn learnt_answer(
     alloc: Global,
     learnt: LearntTask,
     task: &Task,
     records: &[Vec<Entry>],
-) -> Result<Answer, Memory>
+) -> Result<Option<Answer>, Memory>
     requires { task_of learnt.text.items ≡ Ok task.now }
-    ensures { IfOk result (λ answer. WritesTask (map (λ entries. calls_seen entries.items) records.now) answer.status answer.text.items) }
+    ensures { IfOk result (λ answer. IfSome answer (λ a. WritesTask (map (λ entries. calls_seen entries.items) records.now) a.status a.text.items)) }
 {
-    let Some(at) = first_lost(alloc, task, records)? else {
-        return Ok(Answer::new(alloc, learnt.text, DONE));
-    };
-    let mut told = Page::new(alloc);
-    add_lost(alloc, &mut told, task, &learnt.renamings, records, at)?;
-    Ok(Answer {
-        text: learnt.text,
-        told: told.into_bytes()?,
-        status: BROKEN,
-    })
+    let placings = places_of(alloc, &learnt.renamings)?;
+    match runs_found(alloc, task, &placings, records)? {
+        Found::Runs(runs) => told_answer(alloc, &learnt.text, &placings, &runs),
+        Found::Lost(at) => Ok(Some(Answer {
+            text: learnt.text,
+            told: lost_words(alloc, at)?,
+            status: BROKEN,
+        })),
+    }
 }
 
-/// A task that recorded calls show, with what is told: for which of them no run of it is found, or why there is none. The status is 0 where each
-/// follows it.
+/// What is answered of a task that was learnt, if it could be read again with what is told.
+fn answer_or_nothing(alloc: Global, answer: Option<Answer>) -> Result<Answer, Memory>
+    ensures { IfOk result (λ own. (answer ≡ Some own) ⊎ WritesNothing own.status own.text.items) }
+{
+    match answer {
+        Some(answer) => Ok(answer),
+        None => nothing(alloc, "what comes of it isn't a task"),
+    }
+}
+
+/// A task that recorded calls show, with what is told: how many of them a run of it shows and skips, or for which file no run is found, or why
+/// there is none. The status is 0 where a run shows each file and skips only what is excused.
 #[tactic(auto, using(crate::proofs::LearntLaws::learnt, crate::proofs::LearntLaws::nothing_learnt))]
 pub(crate) fn answer_learn<'a, S: Source>(
     alloc: Global,
@@ -188,7 +230,7 @@ pub(crate) fn answer_learn<'a, S: Source>(
         Err(fault) => return Ok(nothing(alloc, why_nothing(fault))?),
     };
     match read_task(alloc, &learnt.text) {
-        Ok(task) => Ok(learnt_answer(alloc, learnt, &task, &records)?),
+        Ok(task) => Ok(answer_or_nothing(alloc, learnt_answer(alloc, learnt, &task, &records)?)?),
         Err(TaskFault::Memory) => Err(Refusal::from(Memory)),
         Err(fault) => Ok(nothing(alloc, why_refused(&fault))?),
     }

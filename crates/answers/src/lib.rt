@@ -9,6 +9,7 @@ mod following;
 mod known_bounds;
 pub mod laws;
 mod learning;
+mod leaving;
 mod paging;
 mod parting;
 mod placing_words;
@@ -17,6 +18,7 @@ pub mod questions;
 mod recording;
 mod refusals;
 mod scanning;
+mod showing;
 pub mod usage;
 
 pub use answering::serve;

@@ -5,6 +5,8 @@ pub mod Outcomes
 pub mod Standings
 pub mod Shows
 pub mod Moves
+pub mod Excused
 pub mod Samples
 pub mod Views
 pub mod FollowedViews
+pub mod TallyViews

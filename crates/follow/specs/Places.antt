@@ -1,8 +1,9 @@
 -- Places of a record, and those of a task that stand for them. (own)
-use Rattle.std.specs.Prelude.{◌&&◌, not, nat_eq, Bool, true, false, List, [], ◌∷◌, ◌++◌, drop, take, length, Option, Some, None, if◌then◌else◌}
+use Rattle.std.specs.Prelude.{◌&&◌, ◌||◌, not, nat_eq, Bool, true, false, List, [], ◌∷◌, ◌++◌, codes, drop, take, length, Option, Some, None, if◌then◌else◌}
 use Rattle.std.specs.List.{list_any}
 use Rattle.std.specs.Str.{bytes_eq}
 use Rattle.rights.specs.Values.{PathText}
+use Rattle.file_tree.specs.Nodes.{Node, is_link}
 use Rattle.file_tree.specs.Places.{names_text, slash}
 use Rattle.instruction_set.specs.Programs.{Instruction, Invoke, Open, Stat, Mkdir, Unlink}
 use Rattle.task.specs.Plans.{Grant, NamedProgram, Plan}
@@ -42,8 +43,31 @@ is_path_of path (Some named) = bytes_eq named path
 abbrev pub names_path : PathText → List Instruction → Bool
 names_path path code = list_any (λ i. is_path_of path (global_path i)) code
 
--- The path lies in no grant of the task, and no call of its programs names it.
+-- behind a slash stands a name that isn't empty, `.` or `..`
+abbrev pub begins_plainly : PathText → Bool
+begins_plainly path = not (ends_name path) && not (lies_at (codes ".") path) && not (lies_at (codes "..") path)
+
+-- so behind each slash
+abbrev pub is_plain : PathText → Bool
+is_plain [] = true
+is_plain (b ∷ path) = (not (nat_eq b slash) || begins_plainly path) && is_plain path
+
+abbrev pub begins_at_root : PathText → Bool
+begins_at_root [] = false
+begins_at_root (b ∷ path) = nat_eq b slash
+
+-- A path is a place's text: `/`, or names with one slash before each.
+abbrev pub is_place : PathText → Bool
+is_place path = bytes_eq path (slash ∷ []) || begins_at_root path && is_plain path
+
+-- a link stands at a path or on its way
+abbrev pub is_link_to : PathText → Node → Bool
+is_link_to path n = is_link n.kind && lies_at (names_text n.place) path
+
+-- The path is a place's, no link of the task's tree stands there or on its way, it lies in no grant of the task, and no call of its programs names it.
 abbrev pub is_foreign : Plan → PathText → Bool
 is_foreign plan path =
-    not (list_any (λ (g : Grant). lies_at (names_text g.path) path) plan.grants)
+    is_place path
+    && not (list_any (is_link_to path) plan.nodes)
+    && not (list_any (λ (g : Grant). lies_at (names_text g.path) path) plan.grants)
     && not (list_any (λ (p : NamedProgram). names_path path p.code) plan.programs)

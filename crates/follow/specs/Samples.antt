@@ -1,16 +1,20 @@
 -- A run that shows the calls of a record, and those that don't, each for another reason.
-use Rattle.std.specs.Prelude.{ℕ, Bool, true, false, List, [], ◌∷◌, ◌++◌, codes, Option, Some, None}
+use Rattle.std.specs.Prelude.{◌≡◌, ℕ, Bool, true, false, List, [], ◌∷◌, ◌++◌, codes, map, replicate, Option, Some, None}
 use Rattle.rights.specs.Calls as calls
 use Rattle.rights.specs.Calls.{Call}
 use Rattle.rights.specs.Errors.{EBADF}
 use Rattle.rights.specs.Opens.{open_request}
 use Rattle.rights.specs.Sets.{all_rights, all_commands}
+use Rattle.file_tree.specs.Nodes.{Link}
+use Rattle.file_tree.specs.Places.{slash}
+use Rattle.std.specs.List.{list_any}
 use Rattle.instruction_set.specs.Programs.{Instruction, Halt, Invoke, Register, Number, Open, Read, Dup, Close, Cap_enter}
 use Rattle.records.specs.Calls.{RealOperand, RecordedOutcome, Succeeds, Fails, RecordedEvent, Called, Ended, RecordEntry, RecordedCalls}
 use Rattle.records.specs.Calls as real
 use Rattle.task.specs.Breaches.{small_tree}
 use Rattle.task.specs.Plans.{On_node, Plan, unmarked}
-use Rattle.follow.specs.Places.{Placing}
+use Rattle.follow.specs.Excused.{are_excused, has_past, tallied}
+use Rattle.follow.specs.Places.{Placing, is_foreign}
 use Rattle.follow.specs.Shows.{Judges, Move, Steps, Skips, Shows, Witness}
 
 -- A process with the file `/work/in` as descriptor 2, in the mode or not.
@@ -61,8 +65,11 @@ copies descriptor = calls_with calls.Dup (real.Number descriptor ∷ []) (Succee
 abbrev pub closes : ℕ → RecordedEvent
 closes descriptor = calls_with calls.Close (real.Number descriptor ∷ []) (Succeeds 0)
 
+abbrev pub opens_at : List ℕ → RecordedEvent
+opens_at path = calls_with calls.Open (real.Path path ∷ real.Flags (open_request true false false false false) ∷ []) (Succeeds 3)
+
 abbrev pub opens : RecordedEvent
-opens = calls_with calls.Open (real.Path (codes "/srv/in") ∷ real.Flags (open_request true false false false false) ∷ []) (Succeeds 3)
+opens = opens_at (codes "/srv/in")
 
 abbrev pub writes : RecordedEvent
 writes = calls_with calls.Write (real.Number 9 ∷ real.Number 1 ∷ []) (Succeeds 1)
@@ -139,3 +146,61 @@ pub record SomeRunsShow : Type 0 where
   pub recorded_mode : Judges entering [] (two_lines enters Ended) (by_moves (silent ∷ next ∷ next ∷ [])) false
   pub lines_overlap : Shows reading_both [] overlapping later_line_first
   pub lines_apart : Judges reading_both [] apart later_line_first false
+
+-- ## Foreign paths
+-- the same task with a link `/up` to `/work`
+abbrev pub with_link : Plan
+with_link = record (copying false) { nodes = small_tree ++ record { kind = Link; place = codes "up" ∷ []; linked = true; content = codes "work" } ∷ [] }
+
+pub record SomePathsAreForeign : Type 0 where
+  pub elsewhere : is_foreign with_link (codes "/srv/in") ≡ true
+  pub root : is_foreign with_link (codes "/") ≡ true
+  pub hidden : is_foreign with_link (codes "/.up/..in") ≡ true
+  pub granted : is_foreign with_link (codes "/work/in") ≡ false
+  pub named : is_foreign opening (codes "/work/in") ≡ false
+  pub dots : is_foreign with_link (codes "/srv/../work/in") ≡ false
+  pub dot : is_foreign with_link (codes "/srv/./in") ≡ false
+  pub slashes : is_foreign with_link (codes "//work/in") ≡ false
+  pub at_end : is_foreign with_link (codes "/srv/") ≡ false
+  pub relative : is_foreign with_link (codes "work/in") ≡ false
+  pub empty : is_foreign with_link [] ≡ false
+  pub link : is_foreign with_link (codes "/up") ≡ false
+  pub through_link : is_foreign with_link (codes "/up/in") ≡ false
+  pub beside_link : is_foreign with_link (codes "/upper/in") ≡ true
+
+-- ## Excused calls
+-- A task that does nothing shows whatever is skipped: that isn't excused.
+abbrev pub idle : Plan
+idle = running false (Halt ∷ [])
+
+abbrev pub reads_by : ℕ → RecordedEvent
+reads_by descriptor = calls_with calls.Read (real.Number descriptor ∷ []) (Succeeds 1)
+
+-- where all calls of a record are skipped, whether each is excused
+abbrev pub are_excused_of : List Placing → List RecordedEvent → Bool
+are_excused_of placings events = are_excused (tallied placings (map (at_line 1) events) (map (λ event. Skips 0) events))
+
+-- a name of 256 bytes
+abbrev pub long_name : List ℕ
+long_name = replicate 256 97
+
+pub record SomeCallsAreExcused : Type 0 where
+  pub idle_shows : Shows idle [] (two_lines opens Ended) (by_moves (Skips 0 ∷ next ∷ []))
+  pub idle_skips : are_excused (tallied [] (two_lines opens Ended) (Skips 0 ∷ next ∷ [])) ≡ false
+  pub shown : are_excused (tallied placings (two_lines opens Ended) (silent ∷ next ∷ next ∷ [])) ≡ true
+  pub elsewhere : are_excused_of [] (opens ∷ []) ≡ false
+  pub blank : are_excused_of [] (opens_at (codes "/srv/a b") ∷ []) ≡ true
+  pub long : are_excused_of [] (opens_at (slash ∷ long_name) ∷ []) ≡ true
+  pub placed_past : are_excused_of (record { real = codes "/srv"; model = codes "/a b" } ∷ []) (opens ∷ []) ≡ false
+  pub placed_within : are_excused_of (record { real = codes "/a b"; model = codes "/srv" } ∷ []) (opens_at (codes "/a b/in") ∷ []) ≡ false
+  pub unnamed : are_excused_of [] (reads_by 9 ∷ []) ≡ false
+  pub behind : are_excused_of [] (opens_at (codes "/srv/a b") ∷ reads_by 3 ∷ []) ≡ true
+  pub behind_other : are_excused_of [] (opens ∷ reads_by 3 ∷ []) ≡ false
+  pub copied : are_excused_of [] (opens_at (codes "/srv/a b") ∷ copies 3 ∷ closes 3 ∷ reads_by 7 ∷ []) ≡ true
+  pub closed : are_excused_of [] (opens_at (codes "/srv/a b") ∷ closes 3 ∷ reads_by 3 ∷ []) ≡ false
+
+-- Of a record whose paths are within the limits no call that is skipped is excused.
+pub record NoExcuseWithin : Type 0 where
+  pub others : (placings : List Placing) (calls : RecordedCalls) (moves : List Move)
+      → list_any (λ (entry : RecordEntry). has_past placings entry.event) calls ≡ false
+      → (tallied placings calls moves).others ≡ (tallied placings calls moves).skipped

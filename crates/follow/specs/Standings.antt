@@ -87,7 +87,7 @@ module _ (g : Setting) where
   after_step s p (Some seen) (Some i) = option_and_then (if_shown s p seen i) (next_entry s.left i)
 
   -- ## Skips
-  -- It names a place from the root that the task doesn't have, or goes by a number for which nothing stands.
+  -- It is of a path that is foreign, or goes by a number for which nothing stands.
   abbrev pub may_skip : List Naming → ProcessNumber → MadeCall → List RealOperand → Bool
   may_skip namings p made (Path path ∷ operands) = is_foreign g.plan (placed g.placings path)
   may_skip namings p made operands = any_unnamed namings p (descriptor_count made.call) operands

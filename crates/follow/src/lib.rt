@@ -7,6 +7,7 @@
 mod branching;
 pub mod checking;
 mod digests;
+pub mod excused;
 pub mod following;
 mod given;
 pub mod laws;
@@ -22,6 +23,7 @@ pub mod witnesses;
 mod worlds;
 
 pub use checking::shows;
+pub use excused::{Tally, tallied};
 pub use following::{AtPoint, Followed, Parted, follow};
 pub use numbers::ProcessPair;
 pub use places::{Placing, lies_at};

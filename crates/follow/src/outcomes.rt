@@ -63,7 +63,7 @@ pub(crate) fn same_outcome(
 }
 
 /// The number of the end b of a pair.
-fn second_end(bindings: &[Binding]) -> Option<u32>
+pub(crate) fn second_end(bindings: &[Binding]) -> Option<u32>
     ensures { result ≡ second_end (map binding_seen bindings.now) }
 {
     match bindings {
@@ -84,7 +84,7 @@ fn second_end(bindings: &[Binding]) -> Option<u32>
 }
 
 /// Adds what stands for a number from here on.
-fn add(
+pub(crate) fn add(
     namings: &mut Vec<Naming>,
     process: usize,
     real: u32,
@@ -116,7 +116,11 @@ fn add_if_there(
 }
 
 /// Adds that nothing stands for the first number that a call was given.
-fn add_freed(namings: &mut Vec<Naming>, process: usize, operands: &[Operand]) -> Result<(), Memory>
+pub(crate) fn add_freed(
+    namings: &mut Vec<Naming>,
+    process: usize,
+    operands: &[Operand],
+) -> Result<(), Memory>
     ensures { OnOk result (namings_seen namings.new.items ≡ namings_seen namings.old.items ++ freed process (map operand_seen operands.now)) }
 {
     match operands {

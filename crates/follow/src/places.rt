@@ -6,14 +6,15 @@ ghost use Rattle.std.specs.Str.{bytes_eq};
 ghost use Rattle.file_tree.specs.Places.{names_text};
 ghost use Rattle.instruction_set.specs.Views.{code_of, instruction_of};
 ghost use Rattle.task.specs.Plans.{Grant as GrantSeen, NamedProgram as NamedProgramSeen};
-ghost use Rattle.task.specs.Views.{grants_of, programs_of};
-ghost use Rattle.follow.specs.Places.{ends_name, global_path, is_foreign, is_path_of, lies_at, names_path, placed};
+ghost use Rattle.task.specs.Views.{grants_of, node_of, nodes_of, programs_of};
+ghost use Rattle.follow.specs.Places.{begins_plainly, ends_name, global_path, is_foreign, is_link_to, is_path_of, is_place, is_plain, lies_at, names_path, placed};
 ghost use Rattle.follow.specs.Views.{placings_of};
 
+use file_tree::Kind;
 use instruction_set::{Instruction, Syscall};
 use rights::Memory;
 use std::alloc::Global;
-use task::{Grant, NamedProgram, Task};
+use task::{Grant, NamedProgram, Task, TaskNode};
 
 /// What lies at the place `real` of a record, or beneath it, lies at the place `model` of the task, or beneath it. A place is written
 /// without a slash at its end, so that of the root is empty.
@@ -149,9 +150,62 @@ fn is_granted(path: &[u8], grants: &[Grant]) -> bool
     }
 }
 
-/// Whether a path lies in no grant of the task, and no call of its programs names it.
+/// Whether a name that isn't empty, `.` or `..` begins a text.
+fn begins_plainly(text: &[u8]) -> bool
+    ensures { result ≡ begins_plainly text.now }
+{
+    !ends_name(text) && !lies_at(b".", text) && !lies_at(b"..", text)
+}
+
+/// Whether that is so behind each slash of a text.
+fn is_plain(text: &[u8]) -> bool
+    ensures { result ≡ is_plain text.now }
+{
+    for (at, byte) in text.iter().enumerate() {
+        if *byte == b'/' && !begins_plainly(&text[at + 1..]) {
+            return false;
+        }
+    }
+    true
+}
+
+/// Whether a path is a place's text: `/`, or names with one slash before each.
+fn is_place(path: &[u8]) -> bool
+    ensures { result ≡ is_place path.now }
+{
+    match path {
+        [b'/'] => true,
+        [b'/', ..] => is_plain(path),
+        _ => false,
+    }
+}
+
+/// Whether a node is a link that stands at this path or on its way.
+fn is_link_to(path: &[u8], node: &TaskNode) -> bool
+    ensures { result ≡ is_link_to path.now (node_of node.now) }
+{
+    matches!(node.kind, Kind::Link) && lies_at(node.place.names_text(), path)
+}
+
+/// Whether some node is.
+fn is_led_on(path: &[u8], nodes: &[TaskNode]) -> bool
+    ensures { result ≡ list_any (is_link_to path.now) (nodes_of nodes.now) }
+{
+    for node in nodes {
+        if is_link_to(path, node) {
+            return true;
+        }
+    }
+    false
+}
+
+/// Whether a path is a place's, no link of the task's tree stands there or on its way, it lies in no grant of the task, and no call of its
+/// programs names it.
 pub(crate) fn is_foreign(task: &Task, path: &[u8]) -> bool
     ensures { result ≡ is_foreign task.now path.now }
 {
-    !is_granted(path, task.grants()) && !is_named(path, task.programs())
+    is_place(path)
+        && !is_led_on(path, task.nodes())
+        && !is_granted(path, task.grants())
+        && !is_named(path, task.programs())
 }

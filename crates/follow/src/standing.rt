@@ -235,7 +235,7 @@ impl<'c> Standing<'c> {
 }
 
 /// Takes out the entry of a place.
-fn take_out(left: &mut Vec<&Entry>, at: usize)
+pub(crate) fn take_out(left: &mut Vec<&Entry>, at: usize)
     requires { at < length left.old.items }
     ensures { entries_behind left.new.items ≡ remove (entries_behind left.old.items) at }
 {

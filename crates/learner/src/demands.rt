@@ -3,12 +3,13 @@
 use crate::calls::{ROOT, changes_names, flags_of, number_at, path_at, path_place};
 use crate::entrances::Entrances;
 use crate::evidence::place_in;
+use crate::further::FurtherRights;
 use crate::handles::{Handles, Naming};
 use crate::libraries::library_of;
 use crate::places::{above, path_from};
 use crate::room::Room;
 use crate::trees::Tree;
-use records::{Entry, Event, LeftOut, MadeCall, WantedRight};
+use records::{Entry, Event, LeftOut, MadeCall, Reason};
 use rights::need_table::{Position, needs};
 use rights::{Call, Fcntls, Rights};
 
@@ -17,7 +18,9 @@ use rights::{Call, Fcntls, Rights};
 pub(crate) struct Demand {
     pub rights: Rights,
     pub commands: Fcntls,
-    /// A call in the mode names it, other than to close it.
+    /// What calls ask of it that none of the task's stands for.
+    pub further: FurtherRights,
+    /// A call in the mode works on it, other than to close it, or a lock on it lasts.
     pub is_used: bool,
     /// Names beneath it are changed outside the mode, or opened that are used in it.
     pub is_ground: bool,
@@ -53,6 +56,10 @@ pub(crate) struct Demands {
     pub kept: Vec<Limit>,
     /// What is left to each descriptor that is sent, where it is.
     pub sent: Vec<Limit>,
+    /// What is asked of the input, output and errors of a process that enters the mode, where it does.
+    pub standard: Vec<Limit>,
+    /// The descriptors of files that are locked outside the mode.
+    locked: Vec<usize>,
 }
 
 impl Demand {
@@ -61,6 +68,7 @@ impl Demand {
         Demand {
             rights: Rights::empty(),
             commands: Fcntls::empty(),
+            further: FurtherRights::none(),
             is_used: false,
             is_ground: false,
         }
@@ -76,6 +84,7 @@ impl Demand {
         Demand {
             rights: self.rights.union(other.rights),
             commands: self.commands.union(other.commands),
+            further: self.further.with(other.further),
             is_used: self.is_used || other.is_used,
             is_ground: self.is_ground || other.is_ground,
         }
@@ -104,8 +113,7 @@ fn asked_by(made: &MadeCall, position: Position) -> Demand {
     Demand {
         rights: needs(call, flags_of(made), position, true),
         commands,
-        is_used: false,
-        is_ground: false,
+        ..Demand::nothing()
     }
 }
 
@@ -219,18 +227,44 @@ impl Demands {
     /// Notes what is left to the descriptors of a process that enters the mode behind an entry.
     fn enter(&mut self, room: &mut Room, course: &Course<'_>, process: u32, entry: usize) {
         for (handle, own) in course.handles.list.iter().enumerate() {
-            if own.process == process && own.is_open_behind(entry) && !own.is_standard {
-                let demand = self.at(handle);
-                room.push(
-                    &mut self.kept,
-                    Limit {
-                        entry,
-                        handle,
-                        demand,
-                    },
-                );
+            if own.process == process && own.is_open_behind(entry) {
+                let mut demand = self.at(handle);
+                demand.is_used = demand.is_used || self.is_locked(course.handles, handle);
+                let limit = Limit {
+                    entry,
+                    handle,
+                    demand,
+                };
+                if own.is_standard {
+                    room.push(&mut self.standard, limit);
+                } else {
+                    room.push(&mut self.kept, limit);
+                }
             }
         }
+    }
+
+    /// Whether the file of a descriptor is locked: by it, or by one that it is a copy of.
+    fn is_locked(&self, handles: &Handles, handle: usize) -> bool {
+        let mut at = handle;
+        for _ in 0..handles.list.len() {
+            if self.locked.contains(&at) {
+                return true;
+            }
+            match handles.source_of(at) {
+                Some(source) if handles.place_at(Some(source)) == handles.place_at(Some(at)) => {
+                    at = source;
+                }
+                _ => return false,
+            }
+        }
+        false
+    }
+
+    /// Whether the plan has a limit of a descriptor.
+    pub(crate) fn are_limited(&self, handle: usize) -> bool {
+        self.kept.iter().any(|limit| limit.handle == handle)
+            || self.sent.iter().any(|limit| limit.handle == handle)
     }
 
     /// What is asked of what an entry makes.
@@ -250,6 +284,11 @@ impl Demands {
             if made.call == Call::Openat {
                 demand.is_ground = demand.lies_in_grant() && course.is_in(room, made, naming);
                 demand.is_used = false;
+            }
+            // (what stands as a copy of an input or an output is mostly a socket, which has all rights)
+            if course.handles.is_standard(source) && made.call != Call::Fork {
+                demand.rights = Rights::empty();
+                demand.further = FurtherRights::none();
             }
             self.add(source, demand);
         }
@@ -300,22 +339,29 @@ impl Demands {
         demand
     }
 
-    /// Notes what a call that is none of the task's asks in the mode.
+    /// Notes what a call that is none of the task's asks in the mode; one that is refused there asks for no right.
     fn ask_outside(
         &mut self,
         room: &mut Room,
         course: &Course<'_>,
-        wanted: &WantedRight,
+        left_out: &LeftOut,
         process: u32,
         at: usize,
     ) {
-        if course.entrances.is_in_mode(at) {
-            let handle = course.handles.position_at(process, wanted.descriptor, at);
-            let mut demand = Demand::nothing();
-            demand.rights = right_of(room, &wanted.right);
-            demand.is_used = true;
-            self.add(handle, demand);
+        let Some(wanted) = &left_out.wanted else {
+            return;
+        };
+        if !course.entrances.is_in_mode(at) {
+            return;
         }
+        let handle = course.handles.position_at(process, wanted.descriptor, at);
+        let mut demand = Demand::nothing();
+        if left_out.reason != Reason::Global {
+            demand.rights = right_of(room, &wanted.right);
+            demand.further = FurtherRights::named(&wanted.right);
+        }
+        demand.is_used = true;
+        self.add(handle, demand);
     }
 
     /// Goes back by an entry.
@@ -325,21 +371,16 @@ impl Demands {
         }
         match &entry.event {
             Event::Called(made) => self.ask(room, course, made, at),
-            Event::Omitted(
-                LeftOut {
-                    wanted: Some(wanted),
-                    ..
-                },
-            ) => {
-                self.ask_outside(room, course, wanted, entry.process, at);
+            Event::Omitted(left_out) => {
+                self.ask_outside(room, course, left_out, entry.process, at);
             }
-            Event::Omitted(_) | Event::Ended => {}
+            Event::Ended => {}
         }
     }
 }
 
 /// The rights that a task can have.
-const RIGHTS: [Rights; 14] = [
+pub(crate) const RIGHTS: [Rights; 14] = [
     Rights::READ,
     Rights::WRITE,
     Rights::SEEK,
@@ -357,13 +398,39 @@ const RIGHTS: [Rights; 14] = [
 ];
 
 /// The right of a name, if a task can have it.
-fn right_of(room: &mut Room, name: &[u8]) -> Rights {
+pub(crate) fn right_of(room: &mut Room, name: &[u8]) -> Rights {
     for right in RIGHTS {
         if room.text(right).as_slice() == name {
             return right;
         }
     }
     Rights::empty()
+}
+
+/// The descriptors of files that are locked outside the mode: a lock lasts as long as one of them is open.
+fn locked_of(
+    room: &mut Room,
+    entries: &[Entry],
+    handles: &Handles,
+    entrances: &Entrances,
+) -> Vec<usize> {
+    let mut locked = room.list();
+    for (at, entry) in entries.iter().enumerate() {
+        if let Event::Omitted(
+            LeftOut {
+                wanted: Some(wanted),
+                ..
+            },
+        ) = &entry.event
+        {
+            if wanted.right.as_slice() == b"FLOCK".as_slice() && !entrances.is_in_mode(at) {
+                if let Some(handle) = handles.position_at(entry.process, wanted.descriptor, at) {
+                    room.push(&mut locked, handle);
+                }
+            }
+        }
+    }
+    locked
 }
 
 /// So many demands of nothing.
@@ -394,6 +461,8 @@ pub(crate) fn demands_of(
         asked: nothings(room, entries.len()),
         kept: room.list(),
         sent: room.list(),
+        standard: room.list(),
+        locked: locked_of(room, entries, handles, entrances),
     };
     for (at, entry) in course.entries.iter().enumerate().rev() {
         demands.go_back(room, &course, at, entry);

@@ -7,7 +7,7 @@ use crate::calls::{
 use crate::places::{above, behind, ends_at_directory, last_name, place_at};
 use crate::room::Room;
 use crate::trees::{Presence, Tree};
-use records::{Binding, Entry, Event, MadeCall};
+use records::{Binding, Entry, Event, LeftOut, MadeCall};
 use rights::{Call, Errno};
 
 /// The place of the directory from which the path in a place goes on, if it is known.
@@ -288,12 +288,90 @@ fn add_call(room: &mut Room, tree: &mut Tree, made: &MadeCall) {
     }
 }
 
+/// A descriptor that is open, by its process and number, of what stands at a place.
+#[derive(Drop)]
+struct Opened {
+    process: u32,
+    number: u32,
+    place: Vec<u8>,
+}
+
+/// The calls that list a directory.
+const LISTING: [&[u8]; 3] = [b"getdents", b"getdents64", b"getdirentries"];
+
+/// Whether a call that is left out lists a directory.
+pub(crate) fn lists_directory(left_out: &LeftOut) -> bool {
+    LISTING.iter().any(|name| left_out.name.as_slice() == *name)
+}
+
+/// Which of these descriptors a number of a process is.
+fn opened_at(opened: &[Opened], process: u32, number: u32) -> Option<usize> {
+    opened
+        .iter()
+        .position(|own| own.process == process && own.number == number)
+}
+
+/// Notes which descriptors a call opens and closes.
+fn note_opened(room: &mut Room, opened: &mut Vec<Opened>, process: u32, made: &MadeCall) {
+    let number = match made.call {
+        Call::Open | Call::Openat => answer_of(made),
+        Call::Close => number_at(made, 0),
+        _ => None,
+    };
+    let Some(number) = number else {
+        return;
+    };
+    if let Some(at) = opened_at(opened, process, number) {
+        if at < opened.len() {
+            opened.swap_remove(at);
+        }
+    }
+    if let (Some(place), true) = (place_given(made), made.call != Call::Close) {
+        let place = room.copy(place);
+        room.push(
+            opened,
+            Opened {
+                process,
+                number,
+                place,
+            },
+        );
+    }
+}
+
+/// Notes that what a call lists is a directory.
+fn add_listed(
+    room: &mut Room,
+    tree: &mut Tree,
+    opened: &[Opened],
+    process: u32,
+    left_out: &LeftOut,
+) {
+    let Some(wanted) = &left_out.wanted else {
+        return;
+    };
+    if let Some(at) = opened_at(opened, process, wanted.descriptor) {
+        if let Some(own) = opened.get(at) {
+            let place = tree.resolve(room, b"/", &own.place);
+            tree.there(room, &place, Presence::Directory);
+        }
+    }
+}
+
 /// What is told by the calls of a record, one after another.
 pub(crate) fn add_evidence(room: &mut Room, tree: &mut Tree, entries: &[Entry]) {
     tree.rewind();
+    let mut opened = room.list();
     for entry in entries {
-        if let Event::Called(made) = &entry.event {
-            add_call(room, tree, made);
+        match &entry.event {
+            Event::Called(made) => {
+                add_call(room, tree, made);
+                note_opened(room, &mut opened, entry.process, made);
+            }
+            Event::Omitted(left_out) if lists_directory(left_out) => {
+                add_listed(room, tree, &opened, entry.process, left_out);
+            }
+            Event::Omitted(_) | Event::Ended => {}
         }
     }
 }

@@ -3,7 +3,7 @@
 use crate::calls::{answer_of, end_through, number_at, place_of, second_end};
 use crate::room::Room;
 use crate::trees::Tree;
-use records::{Entry, Event, MadeCall, RecordedEnd};
+use records::{Entry, Event, LeftOut, MadeCall, RecordedEnd};
 use rights::{Call, Side};
 
 /// How many numbers are input, output and errors.
@@ -24,6 +24,8 @@ pub(crate) struct Handle {
     pub closed: Option<usize>,
     /// It is the input, output or errors with which a first process began.
     pub is_standard: bool,
+    /// It is an end of a connection, which was accepted through its source.
+    pub is_connection: bool,
 }
 
 /// The descriptors that an entry names, and those that it makes, by their places in the list of them.
@@ -61,6 +63,14 @@ fn second_place(call: Call) -> Option<usize> {
         Call::Sendfd => Some(1),
         Call::Renameat => Some(2),
         _ => None,
+    }
+}
+
+/// Whether what comes through a descriptor is a connection: an end of a pair of its own, through one of the world.
+fn comes_as_connection(made: &MadeCall, answer: u32) -> bool {
+    match (end_through(made), made.end_of(answer)) {
+        (Some(through), Some(own)) => through.pair == 0 && own.pair > 0,
+        _ => false,
     }
 }
 
@@ -147,6 +157,21 @@ impl Handles {
         }
     }
 
+    /// Whether connections come through a descriptor.
+    pub(crate) fn is_listened_on(&self, handle: usize) -> bool {
+        self.list
+            .iter()
+            .any(|own| own.is_connection && own.source == Some(handle))
+    }
+
+    /// Whether a descriptor is the input, output or errors of a first process.
+    pub(crate) fn is_standard(&self, handle: Option<usize>) -> bool {
+        match self.at(handle) {
+            Some(handle) => handle.is_standard,
+            None => false,
+        }
+    }
+
     /// What a descriptor comes of.
     pub(crate) fn source_of(&self, handle: usize) -> Option<usize> {
         match self.list.get(handle) {
@@ -205,9 +230,28 @@ impl Handles {
             made: if is_late { Some(at) } else { None },
             closed: None,
             is_standard,
+            is_connection: false,
         };
         self.add(room, handle);
         Some(self.list.len().saturating_sub(1))
+    }
+
+    /// Adds an input, an output or errors that a call wants a right of which is left out, if nothing is known of that number yet.
+    fn add_wanted(&mut self, room: &mut Room, process: u32, number: u32) {
+        if number >= STANDARD || self.had(process, number) {
+            return;
+        }
+        let handle = Handle {
+            process,
+            number,
+            place: None,
+            source: None,
+            made: None,
+            closed: None,
+            is_standard: true,
+            is_connection: false,
+        };
+        self.add(room, handle);
     }
 
     /// Adds a descriptor that a call makes.
@@ -228,6 +272,41 @@ impl Handles {
             made: Some(at),
             closed: None,
             is_standard: false,
+            is_connection: false,
+        };
+        self.add(room, handle);
+    }
+
+    /// Adds a descriptor that comes through one: a connection, with the rights of the one that is listened on, or what was sent.
+    fn take(
+        &mut self,
+        room: &mut Room,
+        tree: &Tree,
+        entry: &Entry,
+        made: &MadeCall,
+        at: usize,
+        naming: &Naming,
+        answer: u32,
+    ) {
+        let place = match place_of(made, answer) {
+            Some(place) => Some(tree.resolve(room, b"/", place)),
+            None => None,
+        };
+        let is_connection = comes_as_connection(made, answer);
+        let source = if is_connection {
+            naming.first
+        } else {
+            self.receive(made)
+        };
+        let handle = Handle {
+            process: entry.process,
+            number: answer,
+            place,
+            source,
+            made: Some(at),
+            closed: None,
+            is_standard: false,
+            is_connection,
         };
         self.add(room, handle);
     }
@@ -273,6 +352,7 @@ impl Handles {
                     made: Some(at),
                     closed: None,
                     is_standard: handle.is_standard,
+                    is_connection: false,
                 };
                 self.add(room, copy);
             }
@@ -291,18 +371,19 @@ impl Handles {
         answer: u32,
     ) {
         match made.call {
-            Call::Open | Call::Openat | Call::Recvfd => {
+            Call::Open | Call::Openat => {
                 let place = match place_of(made, answer) {
                     Some(place) => Some(tree.resolve(room, b"/", place)),
                     None => None,
                 };
-                let source = match made.call {
-                    Call::Openat => naming.first,
-                    Call::Recvfd => self.receive(made),
-                    _ => None,
+                let source = if made.call == Call::Openat {
+                    naming.first
+                } else {
+                    None
                 };
                 self.make(room, entry, at, answer, place, source);
             }
+            Call::Recvfd => self.take(room, tree, entry, made, at, naming, answer),
             Call::Dup => {
                 let place = self.place_of(room, naming.first);
                 self.make(room, entry, at, answer, place, naming.first);
@@ -361,8 +442,15 @@ impl Handles {
                 made: handles.list.len(),
                 count: 0,
             };
-            if let Event::Called(made) = &entry.event {
-                naming = handles.add_call(room, tree, entry, made, at);
+            match &entry.event {
+                Event::Called(made) => naming = handles.add_call(room, tree, entry, made, at),
+                Event::Omitted(
+                    LeftOut {
+                        wanted: Some(wanted),
+                        ..
+                    },
+                ) => handles.add_wanted(room, entry.process, wanted.descriptor),
+                Event::Omitted(_) | Event::Ended => {}
             }
             room.push(&mut handles.namings, naming);
         }

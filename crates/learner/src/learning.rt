@@ -60,6 +60,7 @@ struct Lessons {
     programs: Vec<Program>,
     needs: Vec<Need>,
     left_out: usize,
+    left_in_mode: usize,
     unseen: usize,
     fits: bool,
     is_over: bool,
@@ -149,6 +150,7 @@ impl Lessons {
         self.fits = self.fits && code.fits() && !learning.automaton.is_full;
         self.is_over = self.is_over || learning.is_over;
         self.left_out = self.left_out.saturating_add(learning.left_out);
+        self.left_in_mode = self.left_in_mode.saturating_add(learning.left_in_mode);
         self.unseen = self.unseen.saturating_add(code.unseen);
         let name = name_of(room, self.programs.len());
         for need in &learning.needs {
@@ -169,6 +171,7 @@ fn learn_programs(
         programs: room.list(),
         needs: room.list(),
         left_out: 0,
+        left_in_mode: 0,
         unseen: 0,
         fits: true,
         is_over: false,
@@ -229,6 +232,11 @@ fn meaning_of(level: Level) -> &'static str {
 }
 
 impl Learnt {
+    /// How many calls in the mode aren't there, by a descriptor of which nothing is known or a path that assembly can't have.
+    pub(crate) fn left_in_mode(&self) -> usize {
+        self.lessons.left_in_mode
+    }
+
     /// Adds what is told of how it was learnt.
     pub(crate) fn add_head(&self, page: &mut Page) {
         let lessons = &self.lessons;
@@ -312,7 +320,7 @@ fn text_learnt(
     let mut draft = learnt.draft(room, None);
     draft.add_front(room, &mut page, 0);
     if draft.is_crowded(room) {
-        return Err(LearnFault::Descriptors);
+        return Err(LearnFault::Descriptors.unless_short(room));
     }
     draft.add_name_of(&mut page, 0);
     draft.add_back(room, &mut page, 0);

@@ -1,16 +1,15 @@
 //! A plan in words, as comments in front of its task.
 
-use crate::calls::path_place;
-use crate::demands::{Demand, Limit, Way};
-use crate::evidence::place_in;
+use crate::demands::{Demand, Limit, RIGHTS};
+use crate::fates::standard_rights;
+use crate::further::FurtherRights;
 use crate::handles::Handle;
-use crate::libraries::library_of;
 use crate::policies::{Account, Ground, Policy};
 use crate::room::Room;
 use crate::trees::Tree;
-use records::{Entry, Event, LeftOut, MadeCall, Reason};
+use records::Entry;
 use rights::{Fcntls, Rights};
-use texts::{Page, Say, parts_of, say};
+use texts::{Page, Say, say};
 
 /// What a plan is told of.
 #[derive(Clone, Copy)]
@@ -19,14 +18,6 @@ pub(crate) struct Words<'a> {
     pub policy: &'a Policy,
     pub accounts: &'a [Account],
     pub records: &'a [Vec<Entry>],
-}
-
-/// What is told of calls, the line of the first of them, and how many there are.
-#[derive(Drop)]
-struct Told {
-    text: Vec<u8>,
-    line: u32,
-    count: usize,
 }
 
 /// Places of which a grant allows what nobody means.
@@ -50,29 +41,10 @@ fn add_handle(page: &mut Page, handle: &Handle) {
     }
 }
 
-/// Notes what is told of a call.
-fn add_told(room: &mut Room, notes: &mut Vec<Told>, line: u32, text: Vec<u8>) {
-    for own in notes.iter_mut() {
-        if own.text == text {
-            own.count = own.count.saturating_add(1);
-            return;
-        }
-    }
-    room.push(
-        notes,
-        Told {
-            text,
-            line,
-            count: 1,
-        },
-    );
-}
-
-/// Adds the names of a set as C has them, behind this beginning each, in a line that began there.
-fn add_names(page: &mut Page, begin: usize, beginning: &str, names: &Page) {
+/// Adds names as C has them, each of which stands behind a comma, to a line that began there, where others may stand already.
+fn add_names(page: &mut Page, begin: usize, beginning: &str, names: &[u8]) {
     let mut begin = begin;
-    page.bytes(beginning.as_bytes());
-    for byte in names.as_bytes() {
+    for byte in names {
         if *byte == b',' {
             page.bytes(b",");
             if page.as_bytes().len().saturating_sub(begin) > COLUMNS {
@@ -86,32 +58,45 @@ fn add_names(page: &mut Page, begin: usize, beginning: &str, names: &Page) {
     }
 }
 
-/// Adds the limit of a descriptor, as C has it, to a line that began there.
-fn add_limit(page: &mut Page, begin: usize, demand: Demand) {
-    page.bytes(b"cap_rights_init(&rights");
-    if demand.rights != Rights::empty() {
-        let mut names = Page::new(page.alloc());
-        say!(&mut names; demand.rights);
-        page.bytes(b", ");
-        add_names(page, begin, "CAP_", &names);
+/// The names of what is asked, each behind a comma.
+fn names_of(room: &mut Room, rights: Rights, further: FurtherRights) -> Vec<u8> {
+    let mut names = Page::new(room.alloc());
+    for right in RIGHTS {
+        if rights.contains(right) {
+            say!(&mut names; ",", right);
+        }
     }
+    further.add_names(&mut names);
+    room.bytes(names)
+}
+
+/// The names of commands, each behind a comma.
+fn command_names(room: &mut Room, commands: Fcntls) -> Vec<u8> {
+    let mut names = Page::new(room.alloc());
+    for command in [Fcntls::GETFL, Fcntls::SETFL] {
+        if commands.contains(command) {
+            say!(&mut names; ",", command);
+        }
+    }
+    room.bytes(names)
+}
+
+/// Adds the limit of a descriptor, as C has it, to a line that began there.
+fn add_limit(room: &mut Room, page: &mut Page, begin: usize, demand: Demand) {
+    let names = names_of(room, demand.rights, demand.further);
+    page.bytes(b"cap_rights_init(&rights");
+    add_names(page, begin, "CAP_", &names);
     page.bytes(b")\n");
     if demand.rights.contains(Rights::FCNTL) && demand.commands != Fcntls::all() {
-        let mut names = Page::new(page.alloc());
-        say!(&mut names; demand.commands);
-        page.bytes(b"#      cap_fcntls_limit(.., ");
+        let names = command_names(room, demand.commands);
+        let begin = page.as_bytes().len();
+        page.bytes(b"#      cap_fcntls_limit(..");
         add_names(page, begin, "CAP_FCNTL_", &names);
         page.bytes(b")\n");
     }
-}
-
-/// Adds a line of what isn't in the task.
-fn add_note(page: &mut Page, note: &Told) {
-    say!(page; "#  line ", note.line);
-    if note.count > 1 {
-        say!(page; ", ", note.count, " times");
+    if demand.further.has_ioctl() {
+        page.bytes(b"#      cap_ioctls_limit(.., the commands of its ioctl calls)\n");
     }
-    say!(page; ": ", note.text.as_slice(), "\n");
 }
 
 impl<'a> Words<'a> {
@@ -129,7 +114,7 @@ impl<'a> Words<'a> {
             page.bytes(operation.name().as_bytes());
         }
         page.bytes(b"): ");
-        add_limit(page, begin, ground.demand);
+        add_limit(room, page, begin, ground.demand);
     }
 
     /// Adds which descriptor a limit is of.
@@ -141,25 +126,56 @@ impl<'a> Words<'a> {
     }
 
     /// Adds what is done with a descriptor in front of the mode.
-    fn add_kept(&self, page: &mut Page, account: &Account, limit: &Limit) {
+    fn add_kept(&self, room: &mut Room, page: &mut Page, account: &Account, limit: &Limit) {
         let begin = page.as_bytes().len();
         page.bytes(b"#  ");
         self.add_subject(page, account, limit);
         if limit.demand.is_used {
-            add_limit(page, begin, limit.demand);
+            add_limit(room, page, begin, limit.demand);
         } else {
-            page.bytes(b"close it, nothing behind the line uses it\n");
+            page.bytes(b"close it, nothing behind the line uses it in this record\n");
+        }
+        if account.handles.is_listened_on(limit.handle) {
+            page.bytes(b"#      (a connection that is accepted has the same)\n");
         }
     }
 
+    /// Adds what an input, an output or errors have to keep beside what caph_limit_stdio(3) leaves, if it is anything.
+    fn add_standard(&self, room: &mut Room, page: &mut Page, account: &Account, limit: &Limit) {
+        let mut beyond = Rights::empty();
+        for right in RIGHTS {
+            if limit.demand.rights.contains(right) && !standard_rights().contains(right) {
+                beyond = beyond.union(right);
+            }
+        }
+        let further = limit.demand.further.beyond_standard();
+        if beyond == Rights::empty() && further.is_empty() {
+            return;
+        }
+        let begin = page.as_bytes().len();
+        page.bytes(b"#  ");
+        self.add_subject(page, account, limit);
+        page.bytes(b"what caph_limit_stdio(3) leaves");
+        let names = names_of(room, beyond, further);
+        add_names(page, begin, "CAP_", &names);
+        page.bytes(b"\n");
+    }
+
     /// Adds what is done with a descriptor that is sent into the mode.
-    fn add_sent(&self, page: &mut Page, account: &Account, entries: &[Entry], limit: &Limit) {
+    fn add_sent(
+        &self,
+        room: &mut Room,
+        page: &mut Page,
+        account: &Account,
+        entries: &[Entry],
+        limit: &Limit,
+    ) {
         let entry = entries.get(limit.entry);
         if let (Some(entry), true) = (entry, limit.demand.is_used) {
             let begin = page.as_bytes().len();
             say!(page; "#  before line ", entry.span.first, " sends ");
             self.add_subject(page, account, limit);
-            add_limit(page, begin, limit.demand);
+            add_limit(room, page, begin, limit.demand);
         }
     }
 
@@ -170,107 +186,22 @@ impl<'a> Words<'a> {
             self.add_ground(room, page, ground);
         }
         for (at, account) in self.accounts.iter().enumerate() {
+            for limit in &account.demands.standard {
+                self.add_standard(room, page, account, limit);
+            }
             for limit in &account.demands.kept {
-                self.add_kept(page, account, limit);
+                self.add_kept(room, page, account, limit);
             }
             if let Some(entries) = self.records.get(at) {
-                self.add_all_sent(page, account, entries);
+                self.add_all_sent(room, page, account, entries);
             }
         }
     }
 
     /// Adds the limits of what is sent.
-    fn add_all_sent(&self, page: &mut Page, account: &Account, entries: &[Entry]) {
+    fn add_all_sent(&self, room: &mut Room, page: &mut Page, account: &Account, entries: &[Entry]) {
         for limit in &account.demands.sent {
-            self.add_sent(page, account, entries, limit);
-        }
-    }
-
-    /// Notes that a library uses a file later than it can.
-    fn note_late(
-        &self,
-        room: &mut Room,
-        notes: &mut Vec<Told>,
-        account: &Account,
-        at: usize,
-        entry: &Entry,
-        made: &MadeCall,
-    ) {
-        if account.way_of(room, self.tree, made, at) != Way::Late {
-            return;
-        }
-        let place = place_in(room, self.tree, made, path_place(made.call).unwrap_or(0));
-        if let Some(place) = place {
-            if let Some(library) = library_of(&place) {
-                let text = room.text(parts_of!(place.as_slice(), ": ", library.remedy()));
-                add_told(room, notes, entry.span.first, text);
-            }
-        }
-    }
-
-    /// Notes what a call that is none of the task's would need in the mode.
-    fn note_left_out(
-        &self,
-        room: &mut Room,
-        notes: &mut Vec<Told>,
-        account: &Account,
-        at: usize,
-        entry: &Entry,
-        left_out: &LeftOut,
-    ) {
-        let name = left_out.name.as_slice();
-        if let Some(wanted) = &left_out.wanted {
-            let mut told = Page::new(room.alloc());
-            say!(&mut told; name, ": CAP_", wanted.right.as_slice(), " on ");
-            match account
-                .handles
-                .held_at(entry.process, wanted.descriptor, at)
-            {
-                Some(handle) => add_handle(&mut told, handle),
-                None => say!(&mut told; wanted.descriptor),
-            }
-            let text = room.bytes(told);
-            add_told(room, notes, entry.span.first, text);
-        } else if left_out.reason == Reason::Global {
-            let text = room.text(parts_of!(name, ": by a global name, which the mode refuses"));
-            add_told(room, notes, entry.span.first, text);
-        }
-    }
-
-    /// Notes what a record does in the mode that isn't in the task.
-    fn note_record(
-        &self,
-        room: &mut Room,
-        notes: &mut Vec<Told>,
-        account: &Account,
-        entries: &[Entry],
-    ) {
-        for (at, entry) in entries.iter().enumerate() {
-            if account.entrances.is_in_mode(at) {
-                match &entry.event {
-                    Event::Called(made) => self.note_late(room, notes, account, at, entry, made),
-                    Event::Omitted(left_out) => {
-                        self.note_left_out(room, notes, account, at, entry, left_out);
-                    }
-                    Event::Ended => {}
-                }
-            }
-        }
-    }
-
-    /// Adds what is done in the mode that isn't in the task.
-    fn add_behind(&self, room: &mut Room, page: &mut Page) {
-        let mut notes = room.list();
-        for (at, account) in self.accounts.iter().enumerate() {
-            if let Some(entries) = self.records.get(at) {
-                self.note_record(room, &mut notes, account, entries);
-            }
-        }
-        if !notes.is_empty() {
-            page.bytes(b"# Behind it, and not in this task (rights are to be added above):\n");
-        }
-        for note in &notes {
-            add_note(page, note);
+            self.add_sent(room, page, account, entries, limit);
         }
     }
 
@@ -299,13 +230,14 @@ impl<'a> Words<'a> {
         }
     }
 
-    /// Adds the plan in words.
-    pub(crate) fn add(&self, room: &mut Room, page: &mut Page, line: u32) {
+    /// Adds the plan in words. How many calls in the mode are left is told.
+    pub(crate) fn add(&self, room: &mut Room, page: &mut Page, line: u32) -> usize {
         say!(page; "# The plan: the mode behind line ", line, " of the first file.\n");
         self.add_outside(page);
         self.add_before(room, page);
-        self.add_behind(room, page);
+        let left = self.add_left(room, page);
         self.add_policy(page);
         page.bytes(LAST_WORDS);
+        left
     }
 }

@@ -26,6 +26,8 @@ pub struct Planned {
     pub name: Vec<u8>,
     /// The text from behind its name on.
     pub back: Vec<u8>,
+    /// How many calls in the mode are refused there, or may be for all that is known, and aren't in the task; the greatest number, where 32 bits don't hold it.
+    pub left: u32,
 }
 
 /// Where the first record's process enters the mode, and which program it has.
@@ -39,13 +41,13 @@ struct Start {
 /// The call behind which the mode is to be entered.
 fn start_of(room: &mut Room, records: &[Vec<Entry>], line: u32) -> Result<Start, LearnFault> {
     let Some(entries) = records.first() else {
-        return Err(LearnFault::Nothing);
+        return Err(LearnFault::Nothing.unless_short(room));
     };
     let Some(at) = entry_of(entries, line) else {
-        return Err(LearnFault::Line);
+        return Err(LearnFault::Line.unless_short(room));
     };
     let Some(entry) = entries.get(at) else {
-        return Err(LearnFault::Line);
+        return Err(LearnFault::Line.unless_short(room));
     };
     match program_of(room, entries, entry.process) {
         Some(program) => Ok(Start {
@@ -131,12 +133,13 @@ fn planned_of(
     page: Page,
     draft: Draft<'_>,
     program: usize,
+    left: usize,
 ) -> Result<Planned, LearnFault> {
     let mut page = page;
     let mut draft = draft;
     draft.add_front(room, &mut page, program);
     if draft.is_crowded(room) {
-        return Err(LearnFault::Descriptors);
+        return Err(LearnFault::Descriptors.unless_short(room));
     }
     let mut rest = Page::new(room.alloc());
     draft.add_back(room, &mut rest, program);
@@ -149,7 +152,12 @@ fn planned_of(
     if room.is_short() {
         return Err(LearnFault::Memory);
     }
-    Ok(Planned { front, name, back })
+    Ok(Planned {
+        front,
+        name,
+        back,
+        left: u32::try_from(left).unwrap_or(u32::MAX),
+    })
 }
 
 /// What a policy's remade records teach, behind what is told of it and its words.
@@ -166,9 +174,11 @@ fn plan_in_words(
     add_counts(&mut page, words.records);
     page.page(told);
     learnt.add_head(&mut page);
-    words.add(room, &mut page, line);
+    let left = words
+        .add(room, &mut page, line)
+        .saturating_add(learnt.left_in_mode());
     let draft = learnt.draft(room, Some(words.policy));
-    planned_of(room, page, draft, program)
+    planned_of(room, page, draft, program, left)
 }
 
 /// The plan of records whose entries are in order, and are changed as is told.

@@ -2,10 +2,10 @@
 
 use crate::calls::{number_at, path_place};
 use crate::demands::{Limit, Way, beneath};
-use crate::evidence::place_in;
+use crate::evidence::{lists_directory, place_in};
 use crate::places::path_from;
 use crate::policies::{Account, Policy};
-use crate::remade::{Remade, add_bindings, add_place, call_copy, plain_call};
+use crate::remade::{Remade, add_bindings, add_place, call_copy, left_out_copy, plain_call};
 use crate::room::Room;
 use crate::trees::Tree;
 use records::{Entry, Event, MadeCall, Operand};
@@ -325,6 +325,10 @@ impl<'a> Rewriting<'a> {
             Event::Ended => {
                 self.remade
                     .add(room, entry.process, entry.span.first, Event::Ended);
+            }
+            Event::Omitted(left_out) if lists_directory(left_out) => {
+                let copy = left_out_copy(room, left_out);
+                self.remade.add(room, entry.process, entry.span.first, Event::Omitted(copy));
             }
             Event::Omitted(_) => {}
         }

@@ -59,6 +59,14 @@ pub(crate) struct Visit {
     pub state: usize,
 }
 
+/// A connection: its pair, and the number with which a process began that it came through.
+#[derive(Clone, Copy)]
+struct Accepted {
+    record: usize,
+    pair: u32,
+    first: u8,
+}
+
 /// What is learnt of it.
 #[derive(Drop)]
 pub(crate) struct Learning {
@@ -66,8 +74,12 @@ pub(crate) struct Learning {
     pub needs: Vec<Need>,
     /// How many calls are left out since one of their descriptors stands for nothing, or their path can't be written.
     pub left_out: usize,
+    /// How many of these are in the mode.
+    pub left_in_mode: usize,
     /// A process held more descriptors than one may.
     pub is_over: bool,
+    /// The connections that were accepted.
+    accepted: Vec<Accepted>,
     /// Where the processes stood behind each of their calls.
     pub visits: Vec<Visit>,
     /// The processes that were forked and weren't run yet.
@@ -111,6 +123,16 @@ fn opened(room: &mut Room, made: &MadeCall) -> Vec<u8> {
     }
 }
 
+/// The number with which a process began through which a pair of a record came as a connection, if it did.
+fn first_of(accepted: &[Accepted], record: usize, pair: u32) -> Option<u8> {
+    for own in accepted {
+        if own.record == record && own.pair == pair {
+            return Some(own.first);
+        }
+    }
+    None
+}
+
 impl Running {
     /// The same, with what it holds at this call, as a new process in a state.
     fn forked(&self, room: &mut Room, process: u32, state: usize) -> Running {
@@ -150,14 +172,29 @@ impl Running {
         self.take(room, answer, first) && self.take(room, second, other)
     }
 
-    /// What a descriptor is of that comes by a message: of a connection, if it is an end that comes from the world.
-    fn received(&self, room: &mut Room, tree: &Tree, made: &MadeCall, answer: u32) -> Holding {
-        match (self.table.through(made), made.end_of(answer)) {
-            (Some(Holding::World { first }), Some(end)) if end.pair > 0 => Holding::Connection {
-                first: *first,
+    /// What a descriptor is of that comes by a message: of a connection, if it is an end that comes from the world, or one that another process
+    /// has accepted.
+    fn received(
+        &self,
+        room: &mut Room,
+        course: &Course<'_>,
+        accepted: &[Accepted],
+        made: &MadeCall,
+        answer: u32,
+    ) -> Holding {
+        let Some(end) = made.end_of(answer) else {
+            return holding_of(room, course.tree, made, answer);
+        };
+        let first = match self.table.through(made) {
+            Some(Holding::World { first }) if end.pair > 0 => Some(*first),
+            _ => first_of(accepted, course.record, end.pair),
+        };
+        match first {
+            Some(first) => Holding::Connection {
+                first,
                 pair: end.pair,
             },
-            _ => holding_of(room, tree, made, answer),
+            None => holding_of(room, course.tree, made, answer),
         }
     }
 
@@ -176,7 +213,8 @@ impl Running {
     fn go_on(
         &mut self,
         room: &mut Room,
-        tree: &Tree,
+        course: &Course<'_>,
+        accepted: &[Accepted],
         made: &MadeCall,
         text: &[u8],
         answer: u32,
@@ -184,11 +222,11 @@ impl Running {
         let given = number_at(made, 0).unwrap_or(answer);
         match made.call {
             Call::Open | Call::Openat => {
-                let holding = holding_of(room, tree, made, answer);
+                let holding = holding_of(room, course.tree, made, answer);
                 return self.take(room, answer, holding);
             }
             Call::Recvfd => {
-                let holding = self.received(room, tree, made, answer);
+                let holding = self.received(room, course, accepted, made, answer);
                 return self.take(room, answer, holding);
             }
             Call::Dup => return self.take_copy(room, given, answer),
@@ -249,6 +287,8 @@ impl Learning {
             automaton: Automaton::new(room),
             needs: room.list(),
             left_out: 0,
+            left_in_mode: 0,
+            accepted: room.list(),
             is_over: false,
             visits: room.list(),
             forked: room.list(),
@@ -332,12 +372,18 @@ impl Learning {
         if made.call != Call::Recvfd {
             return;
         }
-        if let Some(Holding::Connection { first, .. }) = table.holding_of(answer) {
+        if let Some(Holding::Connection { first, pair }) = table.holding_of(answer) {
             let ends = Ends::Connections {
                 program: course.program,
                 first: *first,
             };
             add_connection(room, &mut self.needs, ends);
+            let accepted = Accepted {
+                record: course.record,
+                pair: *pair,
+                first: *first,
+            };
+            room.push(&mut self.accepted, accepted);
         }
     }
 
@@ -353,6 +399,9 @@ impl Learning {
     ) {
         let Some(text) = assembly_of(room, &running.table, made, course.offset_of(at)) else {
             self.left_out = self.left_out.saturating_add(1);
+            if running.in_mode {
+                self.left_in_mode = self.left_in_mode.saturating_add(1);
+            }
             return;
         };
         let step = Step {
@@ -365,7 +414,7 @@ impl Learning {
         self.note_need(room, course, &running.table, made);
         let arrival = match answer_of(made) {
             Some(answer) => {
-                if !running.go_on(room, course.tree, made, &step.text, answer) {
+                if !running.go_on(room, course, &self.accepted, made, &step.text, answer) {
                     self.is_over = true;
                 }
                 self.note_connection(room, course, &running.table, made, answer);

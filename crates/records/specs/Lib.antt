@@ -17,3 +17,5 @@ pub mod CountViews
 pub mod Accounts
 pub mod GivenViews
 pub mod Beginnings
+pub mod Runs
+pub mod SeenViews

@@ -20,7 +20,7 @@ pub(crate) struct Listed<'t> {
 }
 
 /// Where the digits end that a text begins with.
-fn digits_end(text: &[u8]) -> usize
+pub(crate) fn digits_end(text: &[u8]) -> usize
     ensures { result ≤ length text.now }
 {
     for (at, byte) in text.iter().enumerate() {
@@ -69,10 +69,15 @@ pub(crate) fn inside(note: &[u8]) -> &[u8] {
 
 /// The descriptor that a text begins with, if it begins with one.
 fn listed_of(text: &[u8]) -> Option<Listed<'_>> {
-    let (digits, rest) = text.split_at(digits_end(text));
-    if !matches!(rest, [] | [b'<' | b']' | b'}' | b',' | b' ', ..]) {
-        return None;
+    match &text[digits_end(text)..] {
+        [] | [b'<' | b']' | b'}' | b',' | b' ', ..] => counted_of(text),
+        _ => None,
     }
+}
+
+/// The number that a text begins with, if it begins with one, and what is noted of it.
+pub(crate) fn counted_of(text: &[u8]) -> Option<Listed<'_>> {
+    let (digits, rest) = text.split_at(digits_end(text));
     let (note, behind) = rest.split_at(first_note_end(rest));
     let Some(number) = number(digits) else {
         return None;

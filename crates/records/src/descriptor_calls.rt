@@ -8,12 +8,17 @@ use crate::limiting;
 use crate::other_rights::OtherRight;
 use crate::runs::Run;
 use crate::seen_calls::{SeenCall, Through};
+use crate::strace::System;
 use rights::{Call, Errno};
 
-/// Linux's bits of a description's flags.
+/// The bits of a description's flags, of Linux and of FreeBSD.
 const APPEND: u32 = 0x400;
 
 const NONBLOCK: u32 = 0x800;
+
+const FREEBSD_APPEND: u32 = 0x8;
+
+const FREEBSD_NONBLOCK: u32 = 0x4;
 
 /// The flags of a description as the calls have them: 1 append, 2 nonblock.
 fn description_flags(append: bool, nonblock: bool) -> u32 {
@@ -101,10 +106,14 @@ fn add_close_range(run: &mut Run, through: &Through<'_>) -> Option<Reason> {
 
 /// The flags of a description.
 fn add_flags(run: &mut Run, through: &Through<'_>) {
+    let (append, nonblock) = match run.known.system {
+        System::Linux => (APPEND, NONBLOCK),
+        System::FreeBsd => (FREEBSD_APPEND, FREEBSD_NONBLOCK),
+    };
     let outcome = match through.seen.outcome {
         Some(Outcome::Success(bits)) => Some(Outcome::Success(description_flags(
-            bits & APPEND != 0,
-            bits & NONBLOCK != 0,
+            bits & append != 0,
+            bits & nonblock != 0,
         ))),
         outcome => outcome,
     };
@@ -186,7 +195,7 @@ fn add_fcntl(run: &mut Run, through: &Through<'_>) -> Option<Reason> {
             return Some(Reason::Quiet);
         }
         Command::Nothing => return Some(Reason::Quiet),
-        Command::Lock => run.want(seen, OtherRight::Flock, Some(through.mention)),
+        Command::Lock => run.want(seen, Reason::Right, OtherRight::Flock, through.mention),
         Command::Unknown => return Some(Reason::Unknown),
     }
     None
@@ -195,12 +204,8 @@ fn add_fcntl(run: &mut Run, through: &Through<'_>) -> Option<Reason> {
 /// An ioctl.
 fn add_ioctl(run: &mut Run, through: &Through<'_>) -> Option<Reason> {
     let seen = through.seen;
-    if seen.has(1, b"FIONBIO") {
-        add_new_flags(run, through, false, !seen.has(2, b"0"));
-        return None;
-    }
     if !seen.has_any(1, &[b"FIOCLEX", b"FIONCLEX"]) {
-        run.want(seen, OtherRight::Ioctl, Some(through.mention));
+        run.want(seen, Reason::Right, OtherRight::Ioctl, through.mention);
         return None;
     }
     let table = &mut run.known.process.table;

@@ -1,4 +1,4 @@
-//! What the calls of Linux, by their names, are.
+//! What the calls of Linux and of FreeBSD, by their names, are.
 
 use crate::entries::Reason;
 use crate::other_rights::OtherRight;
@@ -25,7 +25,7 @@ pub(crate) enum Streaming {
     WriteAt,
     SendMessage,
     ReceiveMessage,
-    /// From the second descriptor to the first.
+    /// From a file to a socket: the second descriptor to the first, or in FreeBSD the first to the second.
     SendFile,
     /// From the first descriptor to the third argument's.
     Splice,
@@ -92,12 +92,22 @@ pub(crate) enum Form {
     Process(OnProcess),
     /// It maps a file, or memory.
     Map,
-    /// It waits for descriptors.
+    /// It waits for the descriptors of sets.
     Waits,
+    /// It waits for those that a queue of events watches.
+    WaitsForQueue,
+    /// It has a queue of events watch a descriptor, or watch it no more.
+    Watches,
+    /// Both: it changes what a queue watches, and waits for it.
+    ChangesQueue,
     /// It wants this right of the descriptor that this argument is.
     Wants(OtherRight, usize),
     /// It wants this right of the directory that is its first argument, or works on a global name.
     WantsAt(OtherRight),
+    /// It works on a global name space, and wants this right of the descriptor that this argument is.
+    WantsGlobal(OtherRight, usize),
+    /// It has no counterpart, and wants this right of the descriptor that this argument is.
+    WantsUnknown(OtherRight, usize),
     /// It is left out for this reason.
     LeftOut(Reason),
 }
@@ -110,33 +120,36 @@ const QUIET_MEMORY: &[u8] =
 /// The calls of signals, likewise.
 const QUIET_SIGNALS: &[u8] =
     b"rt_sigaction rt_sigprocmask rt_sigreturn rt_sigpending rt_sigsuspend rt_sigtimedwait rt_sigqueueinfo rt_tgsigqueueinfo sigaltstack sigreturn \
-    sigaction sigprocmask signal pause restart_syscall";
+    sigaction sigprocmask signal sigpending sigsuspend sigwait sigwaitinfo sigtimedwait sigqueue pause restart_syscall";
 
 /// Those of time.
 const QUIET_TIME: &[u8] =
     b"alarm setitimer getitimer timer_create timer_settime timer_gettime timer_delete timer_getoverrun nanosleep clock_nanosleep clock_gettime \
-    clock_getres clock_settime clock_adjtime adjtimex gettimeofday settimeofday time times";
+    clock_getres clock_settime clock_adjtime adjtimex gettimeofday settimeofday time times ktimer_create ktimer_settime ktimer_gettime \
+    ktimer_delete ktimer_getoverrun adjtime";
 
 /// Those of who a process is.
 const QUIET_IDENTITY: &[u8] =
     b"getpid getppid gettid getpgrp getpgid setpgid getsid setsid getuid geteuid getgid getegid getresuid getresgid setuid setgid setreuid \
-    setregid setresuid setresgid setfsuid setfsgid getgroups setgroups capget capset prctl";
+    setregid setresuid setresgid setfsuid setfsgid getgroups setgroups capget capset prctl procctl \
+    getlogin setlogin setegid seteuid";
 
 /// Those of limits and of when a process runs.
 const QUIET_SCHEDULING: &[u8] =
     b"prlimit64 getrlimit setrlimit ugetrlimit getrusage getpriority setpriority nice ioprio_get ioprio_set sched_yield sched_getaffinity \
     sched_setaffinity sched_getparam sched_setparam sched_getscheduler sched_setscheduler sched_get_priority_max sched_get_priority_min \
-    sched_getattr sched_setattr sched_rr_get_interval";
+    sched_getattr sched_setattr sched_rr_get_interval cpuset cpuset_getaffinity cpuset_setaffinity cpuset_getid cpuset_setid rtprio";
 
 /// The others that have nothing to do with files or descriptors.
 const QUIET_OTHERS: &[u8] =
     b"getrandom getcpu uname sysinfo umask personality getcwd tgkill tkill set_mempolicy get_mempolicy mbind seccomp timerfd_settime \
-    timerfd_gettime landlock_create_ruleset landlock_add_rule landlock_restrict_self fadvise64 readahead __sysctl __sysctlbyname sysarch issetugid sigfastblock \
-    thr_self thr_exit thr_kill rtprio_thread minherit _umtx_op";
+    timerfd_gettime landlock_create_ruleset landlock_add_rule landlock_restrict_self fadvise64 posix_fadvise readahead __sysctl __sysctlbyname sysarch issetugid \
+    sigfastblock thr_self thr_exit thr_kill thr_set_name thr_wake thr_suspend rtprio_thread minherit _umtx_op __getcwd utrace getcontext setcontext";
 
 /// The calls that work on a name from the root, and are none of the calls here.
 const GLOBAL_NAMES: &[u8] =
-    b"connect bind chmod chown lchown chown32 lchown32 symlink symlinkat link readlink mknod truncate truncate64 utime utimes statfs statfs64";
+    b"chmod lchmod chown lchown chown32 lchown32 chflags lchflags symlink symlinkat link readlink mknod mkfifo truncate truncate64 utime utimes \
+    lutimes statfs statfs64 pathconf lpathconf eaccess shm_unlink";
 
 /// Those of the attributes of what stands at such a name.
 const GLOBAL_ATTRIBUTES: &[u8] =
@@ -144,12 +157,12 @@ const GLOBAL_ATTRIBUTES: &[u8] =
 
 /// The calls that work on the numbers of processes, and are none of the calls here.
 const GLOBAL_PROCESSES: &[u8] =
-    b"wait4 waitid waitpid kill pidfd_send_signal ptrace process_vm_readv process_vm_writev";
+    b"wait4 wait6 waitid waitpid kill pidfd_send_signal ptrace process_vm_readv process_vm_writev";
 
 /// Those that work on the whole system.
 const GLOBAL_SYSTEM: &[u8] =
-    b"mount umount umount2 pivot_root unshare setns sethostname setdomainname reboot sync swapon swapoff syslog quotactl init_module finit_module \
-    delete_module acct";
+    b"mount nmount unmount umount umount2 pivot_root unshare setns sethostname setdomainname reboot sync swapon swapoff syslog quotactl init_module finit_module \
+    delete_module acct kldload kldunload kldfind kldnext kldstat jail jail_attach jail_get jail_set getfsstat ktrace";
 
 /// Those that work on other global name spaces.
 const GLOBAL_OTHERS: &[u8] =
@@ -158,12 +171,12 @@ const GLOBAL_OTHERS: &[u8] =
 
 /// The calls that are known, and have no counterpart.
 const UNKNOWN: &[u8] =
-    b"sendmmsg recvmmsg tee vmsplice fallocate syncfs io_setup io_submit io_getevents io_destroy io_cancel io_uring_enter io_uring_register \
+    b"tee vmsplice io_setup io_submit io_getevents io_destroy io_cancel io_uring_enter io_uring_register \
     mq_timedsend mq_timedreceive fanotify_mark bpf pidfd_getfd process_mrelease __cap_rights_get cap_rights_get \
     cap_fcntls_get cap_ioctls_limit cap_ioctls_get";
 
 /// The calls that work on files, descriptors and processes.
-const CALLS: [(&[u8], Form); 47] = [
+const CALLS: [(&[u8], Form); 50] = [
     (b"open", Form::Opens(Opening::Plain)),
     (b"openat openat2", Form::Opens(Opening::At)),
     (b"creat", Form::Opens(Opening::Creat)),
@@ -191,7 +204,10 @@ const CALLS: [(&[u8], Form); 47] = [
     (b"dup", Form::Descriptor(OnDescriptor::Duplicate)),
     (b"dup2 dup3", Form::Descriptor(OnDescriptor::DuplicateTo)),
     (b"close", Form::Descriptor(OnDescriptor::Close)),
-    (b"close_range", Form::Descriptor(OnDescriptor::CloseRange)),
+    (
+        b"close_range closefrom",
+        Form::Descriptor(OnDescriptor::CloseRange),
+    ),
     (b"fcntl fcntl64", Form::Descriptor(OnDescriptor::Fcntl)),
     (b"ioctl", Form::Descriptor(OnDescriptor::Ioctl)),
     (
@@ -207,7 +223,7 @@ const CALLS: [(&[u8], Form); 47] = [
         Form::Name(OnName::Status),
     ),
     (
-        b"newfstatat fstatat64 statx faccessat faccessat2",
+        b"newfstatat fstatat64 fstatat statx faccessat faccessat2",
         Form::Name(OnName::StatusAt),
     ),
     (b"mkdir", Form::Name(OnName::MakeDirectory)),
@@ -221,7 +237,7 @@ const CALLS: [(&[u8], Form); 47] = [
     (b"pipe pipe2", Form::Pair(0)),
     (
         b"socket epoll_create epoll_create1 eventfd eventfd2 timerfd_create inotify_init inotify_init1 memfd_create signalfd signalfd4 kqueue pidfd_open userfaultfd \
-            mq_open perf_event_open io_uring_setup fanotify_init memfd_secret",
+            mq_open perf_event_open io_uring_setup fanotify_init memfd_secret kqueue1 shm_open shm_open2",
         Form::World,
     ),
     (b"accept accept4", Form::Connection),
@@ -238,22 +254,31 @@ const CALLS: [(&[u8], Form); 47] = [
     (b"cap_enter", Form::Process(OnProcess::EnterMode)),
     (b"cap_getmode", Form::Process(OnProcess::GetMode)),
     (b"mmap mmap2", Form::Map),
-    (b"poll ppoll select _newselect pselect6", Form::Waits),
+    (
+        b"poll ppoll select _newselect pselect6 pselect",
+        Form::Waits,
+    ),
+    (b"epoll_wait epoll_pwait epoll_pwait2", Form::WaitsForQueue),
+    (b"epoll_ctl", Form::Watches),
+    (b"kevent", Form::ChangesQueue),
 ];
 
 /// Those that want a right which is none of the fourteen, or are left out.
-const OTHERS: [(&[u8], Form); 35] = [
-    (b"getdents getdents64", Form::Wants(OtherRight::Read, 0)),
+const OTHERS: [(&[u8], Form); 48] = [
     (
-        b"epoll_wait epoll_pwait epoll_pwait2",
-        Form::Wants(OtherRight::KqueueEvent, 0),
+        b"getdents getdents64 getdirentries",
+        Form::Wants(OtherRight::Read, 0),
     ),
-    (b"epoll_ctl", Form::Wants(OtherRight::Event, 2)),
     (b"fchmod", Form::Wants(OtherRight::Fchmod, 0)),
+    (b"fchflags", Form::Wants(OtherRight::Fchflags, 0)),
+    (b"fpathconf", Form::Wants(OtherRight::Fpathconf, 0)),
+    (b"fexecve", Form::Wants(OtherRight::Fexecve, 0)),
+    (b"pdgetpid", Form::Wants(OtherRight::Pdgetpid, 0)),
+    (b"pdkill", Form::Wants(OtherRight::Pdkill, 0)),
     (b"fchown", Form::Wants(OtherRight::Fchown, 0)),
     (b"flock", Form::Wants(OtherRight::Flock, 0)),
     (b"fstatfs", Form::Wants(OtherRight::Fstatfs, 0)),
-    (b"futimes", Form::Wants(OtherRight::Futimes, 0)),
+    (b"futimes futimens", Form::Wants(OtherRight::Futimes, 0)),
     (b"listen", Form::Wants(OtherRight::Listen, 0)),
     (b"shutdown", Form::Wants(OtherRight::Shutdown, 0)),
     (b"setsockopt", Form::Wants(OtherRight::Setsockopt, 0)),
@@ -271,10 +296,23 @@ const OTHERS: [(&[u8], Form); 35] = [
     ),
     (b"fchmodat fchmodat2", Form::WantsAt(OtherRight::Fchmodat)),
     (b"fchownat", Form::WantsAt(OtherRight::Fchownat)),
+    (b"chflagsat", Form::WantsAt(OtherRight::Chflagsat)),
+    (b"mkfifoat", Form::WantsAt(OtherRight::Mkfifoat)),
+    (b"bindat", Form::WantsAt(OtherRight::Bindat)),
+    (b"connectat", Form::WantsAt(OtherRight::Connectat)),
+    (b"__realpathat", Form::WantsAt(OtherRight::Fstat)),
     (b"utimensat futimesat", Form::WantsAt(OtherRight::Futimesat)),
     (b"mknodat", Form::WantsAt(OtherRight::Mknodat)),
     (b"linkat", Form::WantsAt(OtherRight::Linkat)),
     (b"readlinkat", Form::WantsAt(OtherRight::Lookup)),
+    (b"connect", Form::WantsGlobal(OtherRight::Connect, 0)),
+    (b"bind", Form::WantsGlobal(OtherRight::Bind, 0)),
+    (
+        b"sendmmsg fallocate posix_fallocate",
+        Form::WantsUnknown(OtherRight::Write, 0),
+    ),
+    (b"recvmmsg", Form::WantsUnknown(OtherRight::Read, 0)),
+    (b"syncfs", Form::WantsUnknown(OtherRight::Fsync, 0)),
     (QUIET_MEMORY, Form::LeftOut(Reason::Quiet)),
     (QUIET_SIGNALS, Form::LeftOut(Reason::Quiet)),
     (QUIET_TIME, Form::LeftOut(Reason::Quiet)),

@@ -37,6 +37,8 @@ pub(crate) struct Held {
     pub kept: Kept,
     /// Whether it is closed where the process goes on as another program.
     pub closes_on_exec: bool,
+    /// The number of the queue of events that watches it.
+    pub watched_by: Option<u32>,
 }
 
 /// The descriptors of a process, by their numbers.
@@ -56,6 +58,7 @@ impl Table {
         let world = Some(Held {
             kept: WORLD,
             closes_on_exec: false,
+            watched_by: None,
         });
         let mut table = NOTHING_HELD;
         table.slots[0] = world;
@@ -96,10 +99,25 @@ impl Table {
             self.put(
                 number,
                 Some(Held {
-                    kept: held.kept,
                     closes_on_exec,
+                    ..held
                 }),
             );
+        }
+    }
+
+    /// Says which queue of events watches a descriptor.
+    pub(crate) fn set_watched(&mut self, number: u32, watched_by: Option<u32>) {
+        if let Some(held) = self.get(number) {
+            self.put(number, Some(Held { watched_by, ..held }));
+        }
+    }
+
+    /// Whether a queue of events watches a descriptor.
+    pub(crate) fn is_watched_by(&self, number: u32, queue: u32) -> bool {
+        match self.get(number) {
+            Some(held) => held.watched_by == Some(queue),
+            None => false,
         }
     }
 

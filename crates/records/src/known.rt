@@ -9,7 +9,9 @@ use crate::argument_values::{Mention, behind, place_note, socket_inode};
 use crate::entries::Binding;
 use crate::held::{Held, Kept, WORLD};
 use crate::processes::Process;
+use crate::strace::System;
 use crate::strings::add_unescaped;
+use rights::Side;
 use std::alloc::{AllocError, Global};
 use std::collections::BTreeMap;
 use texts::Page;
@@ -20,10 +22,20 @@ const MAX_PLACE: usize = 4096;
 /// Up to two descriptors of which a call tells what they are.
 pub(crate) type About<'t> = [Option<Mention<'t>>; 2];
 
+/// A descriptor that was sent: from which side of which pair, and what it is of.
+#[derive(Clone, Copy)]
+struct Passed {
+    pair: u32,
+    from: Side,
+    kept: Kept,
+}
+
 /// What is known where a process makes a call.
 #[derive(Drop)]
 pub(crate) struct Known {
     pub alloc: Global,
+    /// The system whose call it is.
+    pub system: System,
     /// The process that makes it.
     pub process: Process,
     places: Vec<Page>,
@@ -31,6 +43,8 @@ pub(crate) struct Known {
     pairs: u32,
     /// The ends of pairs by the numbers that the record notes.
     ends: BTreeMap<u32, Kept>,
+    /// The descriptors that were sent and not received yet, in their order.
+    passed: Vec<Passed>,
     /// The ends that don't wait, by their numbers.
     nonblocking: BTreeMap<u64, ()>,
     /// Whether memory was refused for something that should be known.
@@ -42,10 +56,12 @@ impl Known {
     pub(crate) fn new(alloc: Global) -> Known {
         Known {
             alloc,
+            system: System::Linux,
             process: Process::new(0),
             places: Vec::new(alloc),
             pairs: 0,
             ends: BTreeMap::new(alloc),
+            passed: Vec::new(alloc),
             nonblocking: BTreeMap::new(alloc),
             is_short: false,
         }
@@ -68,6 +84,7 @@ impl Known {
 
     /// Keeps a place, if it isn't too long.
     pub(crate) fn keep(&mut self, place: Page) -> Kept {
+        self.note(&place);
         if place.as_bytes().len() > MAX_PLACE {
             return Kept::Unknown;
         }
@@ -104,6 +121,36 @@ impl Known {
         } else if self.nonblocking.insert(number, ()).is_err() {
             self.is_short = true;
         }
+    }
+
+    /// Notes that a descriptor is sent through an end of a pair.
+    pub(crate) fn pass(&mut self, socket: Mention<'_>, sent: Mention<'_>) {
+        if let Kept::End(pair, from) = self.kept_of(socket) {
+            let kept = self.kept_of(sent);
+            if self.passed.push(Passed { pair, from, kept }).is_err() {
+                self.is_short = true;
+            }
+        }
+    }
+
+    /// What a descriptor is of that is received through an end of a pair: what its note tells, or else what was sent first, of what wasn't received
+    /// yet.
+    pub(crate) fn received(&mut self, socket: Mention<'_>, received: Mention<'_>) -> Kept {
+        let noted = self.kept_of_note(received.note);
+        let Kept::End(pair, side) = self.kept_of(socket) else {
+            return noted;
+        };
+        for at in 0..self.passed.len() {
+            let own = self.passed[at];
+            if own.pair == pair && !own.from.is(side) {
+                self.passed.remove(at);
+                return match (noted, own.kept) {
+                    (Kept::End(0, _) | Kept::Unknown, kept) if kept != Kept::Unknown => kept,
+                    _ => noted,
+                };
+            }
+        }
+        noted
     }
 
     /// Notes which end a socket is.
@@ -170,6 +217,7 @@ impl Known {
             Some(Held {
                 kept,
                 closes_on_exec,
+                watched_by: None,
             }),
         );
     }

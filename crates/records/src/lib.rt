@@ -12,6 +12,7 @@ pub mod entries;
 pub mod faults;
 mod forms;
 mod held;
+mod joined_runs;
 mod known;
 mod limiting;
 pub mod line_texts;
@@ -42,6 +43,8 @@ mod taken_calls;
 mod taking;
 mod targets;
 mod truss;
+mod wants;
+mod watching;
 mod words;
 pub mod writing;
 
@@ -50,6 +53,7 @@ pub use entries::{
     Binding, Entry, Event, LeftOut, MadeCall, Outcome, Reason, RecordedEnd, Span, WantedRight,
 };
 pub use faults::CallsFault;
+pub use joined_runs::another_run;
 pub use line_texts::add_event;
 pub use operands::{Kind, Operand, operand_kinds};
 pub use reading::read_calls;

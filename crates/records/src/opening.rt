@@ -3,6 +3,7 @@
 use crate::argument_values::{has_word, place_note};
 use crate::entries::{Outcome, Reason};
 use crate::forms::Opening;
+use crate::other_rights::OtherRight;
 use crate::pairing::take_world;
 use crate::real_calls::Given;
 use crate::runs::Run;
@@ -38,6 +39,32 @@ const ASKED_MORE: [(&[u8], &[u8]); 6] = [
 /// Whether an error is one that such a flag brings about.
 fn brings_about_more(error: &[u8], asked: &[u8]) -> bool {
     ASKED_MORE.iter().any(|(flag, brought)| same_bytes(error, brought) && has_word(asked, flag))
+}
+
+/// The flags of an open that want a right more of the directory, where what is opened by its path alone is to be opened beneath one. (open(2),
+/// rights(4); remembered of the kernel's sources)
+const WANTED_MORE: [(&[u8], OtherRight); 4] = [
+    (b"O_SYNC", OtherRight::Fsync),
+    (b"O_FSYNC", OtherRight::Fsync),
+    (b"O_EXLOCK", OtherRight::Flock),
+    (b"O_SHLOCK", OtherRight::Flock),
+];
+
+/// Tells the rights that the flags of an open want more: of its directory, or of what it makes, to which the directory hands them on.
+fn add_wanted_more(run: &mut Run, seen: &SeenCall<'_>, target: &Target<'_>, asked: &[u8]) {
+    let Some(holder) = target.base.or(seen.made) else {
+        return;
+    };
+    for (flag, right) in &WANTED_MORE {
+        if has_word(asked, flag) {
+            run.want(seen, Reason::Right, *right, holder);
+        }
+    }
+    // (FreeBSD removes the bytes of what is opened for reading, too)
+    let writes = has_word(asked, b"O_RDWR") || has_word(asked, b"O_WRONLY");
+    if has_word(asked, b"O_TRUNC") && !writes {
+        run.want(seen, Reason::Right, OtherRight::Ftruncate, holder);
+    }
 }
 
 /// Puts an opened descriptor into its process's table.
@@ -127,5 +154,9 @@ pub(crate) fn take(run: &mut Run, seen: &SeenCall<'_>, opening: Opening) -> Opti
     if has_word(asked, b"RESOLVE_IN_ROOT") && target.base.is_none() {
         return Some(Reason::Unknown);
     }
-    add_open(run, seen, &target, flags, asked)
+    let left_out = add_open(run, seen, &target, flags, asked);
+    if left_out.is_none() {
+        add_wanted_more(run, seen, &target, asked);
+    }
+    left_out
 }

@@ -103,7 +103,7 @@ fn add_connection(run: &mut Run, through: &Through<'_>, made: Mention<'_>) {
     if seen.has(CONNECTION_FLAGS, b"SOCK_NONBLOCK") {
         add_nonblock(run, seen, made);
     }
-    run.want(seen, OtherRight::Accept, Some(through.mention));
+    run.want(seen, Reason::Right, OtherRight::Accept, through.mention);
 }
 
 /// Takes a call that makes a connection, which comes through the descriptor that is listened on. Why it is left out is told, if it is.

@@ -72,7 +72,10 @@ pub(crate) fn take(run: &mut Run, seen: &SeenCall<'_>, form: OnProcess) -> Optio
             if let (Some(mention), true) = (mention, seen.succeeds()) {
                 run.known.process.directory = run.known.kept_of(mention);
             }
-            run.want(seen, OtherRight::Fchdir, mention);
+            let Some(directory) = mention else {
+                return Some(Reason::Global);
+            };
+            run.want(seen, Reason::Global, OtherRight::Fchdir, directory);
         }
         OnProcess::ChangeRoot => {
             if seen.succeeds() {

@@ -5,7 +5,7 @@ ghost use Rattle.records.specs.Calls.{are_calls};
 ghost use Rattle.records.specs.EntryViews.{calls_seen};
 
 use crate::argument_parts::arguments;
-use crate::entries::{Entry, Event, Reason};
+use crate::entries::{Entry, Event};
 use crate::forms::{Form, OnProcess, form_of};
 use crate::known::Known;
 use crate::logs::{CallName, Log, When};
@@ -17,6 +17,7 @@ use crate::strace::{StraceLine, Told};
 use crate::strace_results::{Answer, UNTOLD};
 use crate::strace_texts::same_bytes;
 use crate::taken_calls;
+use crate::wants::omit_unknown;
 use std::alloc::{AllocError, Global};
 use std::collections::BTreeMap;
 use texts::Page;
@@ -221,20 +222,32 @@ impl<'t> Reader<'t> {
 
     /// Takes a call that never came back: it is left out, but for the end of a process.
     fn give_up(&mut self, thread: u32, begun: Begun<'t>) {
-        let (line, name) = (begun.line, begun.name);
-        if is_end(name.bytes) {
-            return self.take_call(&CameBack {
-                first: line,
-                last: line,
-                thread,
-                name,
-                text: begun.arguments,
-                returned: UNTOLD,
-            });
+        let came = CameBack {
+            first: begun.line,
+            last: begun.line,
+            thread,
+            name: begun.name,
+            text: begun.arguments,
+            returned: UNTOLD,
+        };
+        if is_end(begun.name.bytes) {
+            return self.take_call(&came);
         }
         let process = self.process_of(thread);
-        let when = When::new(line, line, self.processes.number(process));
-        self.run.omit_at(when, Reason::Unknown, name, None);
+        match arguments(self.alloc, came.text) {
+            Ok(parts) => self.leave_out(process, &came, &parts),
+            Err(_) => self.processes.is_short = true,
+        }
+    }
+
+    /// Leaves a call of a process out that never came back.
+    fn leave_out(&mut self, process: usize, came: &CameBack<'_>, parts: &[&[u8]]) {
+        self.processes
+            .exchange(process, &mut self.run.known.process);
+        let when = When::new(came.first, came.last, self.run.known.process.number);
+        omit_unknown(&mut self.run, &SeenCall::new(when, came, parts));
+        self.processes
+            .exchange(process, &mut self.run.known.process);
     }
 
     /// Takes the end of a thread: of its process, where it is the first one and goes on.
@@ -251,6 +264,7 @@ impl<'t> Reader<'t> {
     /// Takes a line. One that fits no call that has begun, or isn't understood, gives nothing.
     pub(crate) fn take(&mut self, number: u32, line: &StraceLine<'t>) {
         let thread = line.process.unwrap_or(self.unnamed);
+        self.run.known.system = line.system;
         match line.told {
             Told::Finished {
                 name,

@@ -13,6 +13,7 @@ use crate::logs::{CallName, Log, When, left_out};
 use crate::other_rights::OtherRight;
 use crate::real_calls::{Given, operands_of};
 use crate::seen_calls::{SeenCall, Through};
+use crate::wants::omit_unknown;
 use rights::Call;
 use std::alloc::AllocError;
 
@@ -41,18 +42,15 @@ impl Run {
         self.omit_at(seen.when, reason, seen.name, None);
     }
 
-    /// Leaves a call out that wants a right of a descriptor, which is told if it is known.
+    /// Leaves a call out for a reason that wants a right of a descriptor.
     pub(crate) fn want(
         &mut self,
         seen: &SeenCall<'_>,
+        reason: Reason,
         right: OtherRight,
-        descriptor: Option<Mention<'_>>,
+        mention: Mention<'_>,
     ) {
-        let wanted = match descriptor {
-            Some(mention) => Some((right, mention.number)),
-            None => None,
-        };
-        self.omit_at(seen.when, Reason::Right, seen.name, wanted);
+        self.omit_at(seen.when, reason, seen.name, Some((right, mention.number)));
     }
 
     /// How many bytes of a stream went through a call: as many as a read or a write through an end of a pair answers.
@@ -104,7 +102,7 @@ impl Run {
         requires { operand_kinds (call_of call) ≡ map given_kind given.now }
     {
         let Some(outcome) = outcome else {
-            return self.omit(seen, Reason::Unknown);
+            return omit_unknown(self, seen);
         };
         let event = self.called(call, given, outcome, about);
         self.log.add(seen.when, event);

@@ -4,6 +4,8 @@ ghost use Rattle.std.specs.Prelude.{◌≡◌, IfOk, length};
 ghost use Rattle.texts.specs.Lines.{lines_of};
 
 use crate::argument_parts::first_at_top;
+use crate::argument_values::digits_end;
+use crate::forms::{Form, form_of};
 use crate::logs::CallName;
 use crate::strace_headers::header_of;
 use crate::strace_results::{CallResult, result_of};
@@ -14,9 +16,19 @@ use crate::truss::{self, read_truss_line};
 use std::alloc::{AllocError, Global};
 use texts::{Lines, first_part};
 
+/// The system whose calls a line tells.
+#[derive(Clone, Copy, PartialEq, Eq)]
+pub(crate) enum System {
+    /// As strace writes them.
+    Linux,
+    /// As truss writes them.
+    FreeBsd,
+}
+
 /// A line of a record.
 #[derive(Clone, Copy)]
 pub(crate) struct StraceLine<'t> {
+    pub system: System,
     /// The process that it tells, if it tells one.
     pub process: Option<u32>,
     pub told: Told<'t>,
@@ -126,6 +138,25 @@ fn unfinished(text: &[u8]) -> Option<&[u8]> {
     }
 }
 
+/// Whether a call's first argument stands as a number or in digits alone, where strace writes a descriptor or a path: with `raw`, where it
+/// stands for an address that can't be read, or with `-xx`.
+fn is_raw(name: CallName<'_>, arguments: &[u8]) -> bool {
+    let (_digits, note) = arguments.split_at(digits_end(arguments));
+    if note.starts_with(b"<\\x") || arguments.starts_with(b"AT_FDCWD<\\x") {
+        return true;
+    }
+    arguments.starts_with(b"0x")
+        && matches!(
+            form_of(name.bytes),
+            Form::Opens(_)
+                | Form::Streams(_)
+                | Form::Descriptor(_)
+                | Form::Name(_)
+                | Form::Connection
+                | Form::Wants(_, _)
+        )
+}
+
 /// A call that begins on the line, as truss or strace writes it.
 pub(crate) fn call_of(text: &[u8], is_truss: bool) -> Told<'_> {
     let (name, Some(rest)) = first_part(text, b'(') else {
@@ -134,11 +165,14 @@ pub(crate) fn call_of(text: &[u8], is_truss: bool) -> Told<'_> {
     let Some(name) = CallName::new(name) else {
         return Told::Other;
     };
+    let is_raw = !is_truss && is_raw(name, rest);
     match unfinished(rest) {
+        Some(_) if is_raw => return Told::Other,
         Some(arguments) if !is_truss => return Told::Unfinished { name, arguments },
         _ => {}
     }
     match ended(rest, is_truss) {
+        Some((_, returned)) if is_raw && !same_bytes(returned.error, b"EFAULT") => Told::Other,
         Some((arguments, returned)) => Told::Finished {
             name,
             arguments,
@@ -169,6 +203,7 @@ fn told_by(text: &[u8]) -> Told<'_> {
 fn read_line(line: &[u8]) -> StraceLine<'_> {
     if line.starts_with(b" > ") {
         return StraceLine {
+            system: System::Linux,
             process: None,
             told: Told::Nothing,
         };
@@ -178,6 +213,7 @@ fn read_line(line: &[u8]) -> StraceLine<'_> {
     }
     let (process, rest) = header_of(line);
     StraceLine {
+        system: System::Linux,
         process,
         told: told_by(without_spaces(rest)),
     }

@@ -4,10 +4,14 @@ use crate::argument_values::{Listed, Mention, behind, first_listed, next_listed}
 use crate::descriptor_calls::{is_of_no_file, is_refused_by_node};
 use crate::entries::{Outcome, Reason};
 use crate::forms::Streaming;
+use crate::other_rights::OtherRight;
 use crate::real_calls::Given;
 use crate::runs::Run;
 use crate::seen_calls::{SeenCall, Through};
-use crate::strace_texts::{number, same_bytes};
+use crate::strace::System;
+use crate::strace_results::{Answer, answer_of};
+use crate::strace_texts::{after, number, same_bytes};
+use crate::wants::sent_by;
 use rights::{Call, Errno};
 use texts::{first_part, read_hex};
 
@@ -25,13 +29,12 @@ fn add_write(run: &mut Run, through: &Through<'_>) -> Option<Reason> {
 }
 
 /// A seek before a read or a write at an offset, which it answers: whether the call gets past it.
-fn add_seek(run: &mut Run, through: &Through<'_>) -> bool {
+fn add_seek(run: &mut Run, through: &Through<'_>, offset: u32) -> bool {
     let outcome = through.seen.outcome;
     if let Some(Outcome::Failure(Errno::EBADF | Errno::EINVAL)) = outcome {
         run.add_with(through, Call::Lseek, 0, outcome);
         return false;
     }
-    let offset = number(through.seen.argument(3)).unwrap_or(0);
     run.add_with(through, Call::Lseek, 0, Some(Outcome::Success(offset)));
     true
 }
@@ -58,26 +61,76 @@ fn takes_nothing(seen: &SeenCall<'_>, streaming: Streaming) -> bool {
 }
 
 /// Bytes that go from one descriptor to another: a read, and a write where there were any.
-fn add_copy(run: &mut Run, seen: &SeenCall<'_>, from: usize, to: usize) -> Option<Reason> {
-    let (Some(source), Some(target)) = (seen.mention(from), seen.mention(to)) else {
+fn add_copy(run: &mut Run, source: &Through<'_>, target: &Through<'_>) -> Option<Reason> {
+    let Some(made) = source.seen.made else {
         return Some(Reason::Unknown);
     };
-    let Some(made) = seen.made else {
+    run.add_lone(source, Call::Read);
+    if made.number == 0 {
+        return None;
+    }
+    add_write(run, target)
+}
+
+/// The offset at which a `sendfile` begins to read, if that is told.
+fn offset_of(run: &Run, seen: &SeenCall<'_>) -> Option<u32> {
+    let offset = seen.argument(2);
+    match run.known.system {
+        System::FreeBsd => match answer_of(offset) {
+            Some(Answer::Number(offset)) => Some(offset),
+            _ => None,
+        },
+        System::Linux => match after(offset, b"[") {
+            Some(digits) => number(first_part(digits, b']').0),
+            None => None,
+        },
+    }
+}
+
+/// What is sent of a file: a seek, since FreeBSD reads at an offset always, a read, and a write. Where it isn't told at which offset, the right to seek is.
+fn add_sent_file(run: &mut Run, file: &Through<'_>, socket: &Through<'_>) -> Option<Reason> {
+    if file.seen.made.is_none() {
+        return Some(Reason::Unknown);
+    }
+    match offset_of(run, file.seen) {
+        Some(offset) => {
+            add_seek(run, file, offset);
+        }
+        None => run.want(file.seen, Reason::Right, OtherRight::Seek, file.mention),
+    }
+    add_copy(run, file, socket)
+}
+
+/// Takes a call that copies the bytes of one descriptor to another.
+fn take_copy(run: &mut Run, seen: &SeenCall<'_>, streaming: Streaming) -> Option<Reason> {
+    let is_sent = matches!(streaming, Streaming::SendFile);
+    let (from, to) = if is_sent {
+        sent_by(run.known.system)
+    } else {
+        (0, 2)
+    };
+    let (Some(from), Some(to)) = (seen.mention(from), seen.mention(to)) else {
         return Some(Reason::Unknown);
     };
     let source = Through {
         seen,
-        mention: source,
+        mention: from,
     };
-    run.add_lone(&source, Call::Read);
-    if made.number == 0 {
-        return None;
+    let target = Through { seen, mention: to };
+    if is_sent {
+        add_sent_file(run, &source, &target)
+    } else {
+        add_copy(run, &source, &target)
     }
-    let target = Through {
-        seen,
-        mention: target,
-    };
-    add_write(run, &target)
+}
+
+/// Whether bytes are sent to an address.
+fn has_address(seen: &SeenCall<'_>) -> bool {
+    let message = seen.argument(1);
+    // (as strace writes a message, and as truss does)
+    behind(message, b"msg_name={").is_some()
+        || message.starts_with(b"{{ ")
+        || seen.argument(4).starts_with(b"{")
 }
 
 /// The first descriptor that a message carries. As truss writes it, its first byte stands in hexadecimal digits before a comma, and it is the
@@ -118,6 +171,9 @@ fn add_sending(run: &mut Run, through: &Through<'_>) -> Option<Reason> {
             Given::Number(1),
         ];
         let about = [Some(socket), Some(sent)];
+        if seen.succeeds() {
+            run.known.pass(socket, sent);
+        }
         run.add(seen, Call::Sendfd, &given, seen.outcome, about);
         next = next_listed(listed.behind);
     }
@@ -126,7 +182,7 @@ fn add_sending(run: &mut Run, through: &Through<'_>) -> Option<Reason> {
 
 /// A descriptor that is received.
 fn add_received(run: &mut Run, through: &Through<'_>, received: Mention<'_>) {
-    let kept = run.known.kept_of_note(received.note);
+    let kept = run.known.received(through.mention, received);
     let closes_on_exec = through.seen.has(2, b"MSG_CMSG_CLOEXEC");
     run.known.hold(received.number, kept, closes_on_exec);
     let outcome = Some(Outcome::Success(received.number));
@@ -156,8 +212,19 @@ fn take_through(run: &mut Run, through: &Through<'_>, streaming: Streaming) -> O
     if is_refused_by_node(run, through) || is_at && is_of_no_file(run, through) {
         return Some(Reason::Unknown);
     }
-    if is_at && !add_seek(run, through) {
-        return None;
+    if is_at {
+        let offset = number(through.seen.argument(3)).unwrap_or(0);
+        if !add_seek(run, through, offset) {
+            return None;
+        }
+    }
+    if matches!(streaming, Streaming::Write | Streaming::SendMessage) && has_address(through.seen) {
+        run.want(
+            through.seen,
+            Reason::Global,
+            OtherRight::Connect,
+            through.mention,
+        );
     }
     match streaming {
         Streaming::Write | Streaming::WriteAt => return add_write(run, through),
@@ -171,8 +238,7 @@ fn take_through(run: &mut Run, through: &Through<'_>, streaming: Streaming) -> O
 /// Takes a read, a write, a copy or a message. Why it is left out is told, if it is.
 pub(crate) fn take(run: &mut Run, seen: &SeenCall<'_>, streaming: Streaming) -> Option<Reason> {
     match streaming {
-        Streaming::SendFile => return add_copy(run, seen, 1, 0),
-        Streaming::Splice => return add_copy(run, seen, 0, 2),
+        Streaming::SendFile | Streaming::Splice => return take_copy(run, seen, streaming),
         _ if takes_nothing(seen, streaming) => return Some(Reason::Unknown),
         _ => {}
     }

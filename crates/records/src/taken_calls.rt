@@ -1,41 +1,15 @@
 //! A call of a record, taken for what it is.
 
-use crate::argument_values::{Mention, behind, first_listed, here_note, mention_of};
+use crate::argument_values::here_note;
 use crate::entries::Reason;
 use crate::forms::{Form, OnDescriptor, OnName, Opening, Streaming, form_of};
 use crate::other_rights::OtherRight;
 use crate::runs::Run;
 use crate::seen_calls::SeenCall;
 use crate::strace_texts::same_bytes;
+use crate::wants::{omit_unknown, omit_wanting};
+use crate::watching::note_watched;
 use crate::{descriptor_calls, name_calls, opening, pairing, process_calls, streaming};
-
-/// The right that a mapping wants, by what it is for. What is written into a mapping of one's own isn't written to the file.
-fn mapping_right(seen: &SeenCall<'_>) -> OtherRight {
-    let writes = seen.has(2, b"PROT_WRITE") && !seen.has(3, b"MAP_PRIVATE");
-    match (seen.has(2, b"PROT_READ"), writes, seen.has(2, b"PROT_EXEC")) {
-        (false, false, false) => OtherRight::Mmap,
-        (true, false, false) => OtherRight::MmapRead,
-        (false, true, false) => OtherRight::MmapWrite,
-        (false, false, true) => OtherRight::MmapExecute,
-        (true, true, false) => OtherRight::MmapReadWrite,
-        (true, false, true) => OtherRight::MmapReadExecute,
-        (false, true, true) => OtherRight::MmapWriteExecute,
-        (true, true, true) => OtherRight::MmapAll,
-    }
-}
-
-/// The first descriptor that a call waits for.
-fn first_waited<'t>(seen: &SeenCall<'t>) -> Option<Mention<'t>> {
-    if let Some(rest) = behind(seen.argument(0), b"{fd=") {
-        return mention_of(rest);
-    }
-    for at in 1..4 {
-        if let Some(first) = first_listed(seen.argument(at)) {
-            return Some(first.mention);
-        }
-    }
-    None
-}
 
 /// Whether a call is by an input or an output that its process has from the start, which loaders leave alone.
 fn is_by_standard(run: &Run, seen: &SeenCall<'_>) -> bool {
@@ -60,33 +34,49 @@ fn is_of_loader(run: &mut Run, seen: &SeenCall<'_>, form: Form) -> bool {
     }
 }
 
+/// Takes a call that wants rights and is none of the calls here. Why it is left out otherwise is told, if it is: where it wants nothing, it has
+/// nothing to do with descriptors, or goes by a global name.
+fn take_wanting(run: &mut Run, seen: &SeenCall<'_>, form: Form) -> Option<Reason> {
+    let (reason, otherwise) = match form {
+        Form::WantsAt(_) => (Reason::Right, Reason::Global),
+        Form::WantsGlobal(_, _) => (Reason::Global, Reason::Global),
+        Form::WantsUnknown(_, _) => return Some(Reason::Unknown),
+        Form::Wants(_, _) => (Reason::Right, Reason::Unknown),
+        _ => (Reason::Right, Reason::Quiet),
+    };
+    let form = match form {
+        Form::WantsAt(OtherRight::Futimesat) if seen.has(1, b"NULL") => {
+            Form::WantsAt(OtherRight::Futimes)
+        }
+        _ => form,
+    };
+    let wants_something = omit_wanting(run, seen, form, reason);
+    note_watched(run, seen, form);
+    if wants_something {
+        None
+    } else {
+        Some(otherwise)
+    }
+}
+
 /// Takes a call of this form. Why it is left out is told, if it is.
 fn take_form(run: &mut Run, seen: &SeenCall<'_>, form: Form) -> Option<Reason> {
-    let (right, wanting) = match form {
-        Form::Opens(opening) => return opening::take(run, seen, opening),
-        Form::Streams(streaming) => return streaming::take(run, seen, streaming),
-        Form::Descriptor(form) => return descriptor_calls::take(run, seen, form),
-        Form::Name(form) => return name_calls::take(run, seen, form),
-        Form::Pair(ends) => return pairing::take(run, seen, ends),
-        Form::World => return pairing::take_world(run, seen),
-        Form::Connection => return pairing::take_connection(run, seen),
-        Form::Process(form) => return process_calls::take(run, seen, form),
+    match form {
+        Form::Opens(opening) => opening::take(run, seen, opening),
+        Form::Streams(streaming) => streaming::take(run, seen, streaming),
+        Form::Descriptor(form) => descriptor_calls::take(run, seen, form),
+        Form::Name(form) => name_calls::take(run, seen, form),
+        Form::Pair(ends) => pairing::take(run, seen, ends),
+        Form::World => pairing::take_world(run, seen),
+        Form::Connection => pairing::take_connection(run, seen),
+        Form::Process(form) => process_calls::take(run, seen, form),
         // A mapping of a file wants a right; one of memory, nothing.
-        Form::Map => match seen.mention(4) {
-            Some(file) if !seen.has(3, b"MAP_ANONYMOUS") => (mapping_right(seen), Some(file)),
-            _ => return Some(Reason::Quiet),
-        },
-        Form::Waits => (OtherRight::Event, first_waited(seen)),
-        Form::Wants(right, at) => (right, seen.mention(at)),
-        Form::WantsAt(_) if here_note(seen.argument(0)).is_some() => return Some(Reason::Global),
-        Form::WantsAt(OtherRight::Futimesat) if seen.has(1, b"NULL") => {
-            (OtherRight::Futimes, seen.mention(0))
+        Form::Map if seen.mention(4).is_none() || seen.has(3, b"MAP_ANONYMOUS") => {
+            Some(Reason::Quiet)
         }
-        Form::WantsAt(right) => (right, seen.mention(0)),
-        Form::LeftOut(reason) => return Some(reason),
-    };
-    run.want(seen, right, wanting);
-    None
+        Form::LeftOut(reason) => Some(reason),
+        _ => take_wanting(run, seen, form),
+    }
 }
 
 /// Takes a call. It may tell which the current directory is.
@@ -108,7 +98,9 @@ pub(crate) fn take(run: &mut Run, seen: &SeenCall<'_>) {
             run.known.process.is_loading = false;
         }
     }
-    if let Some(reason) = take_form(run, seen, form) {
-        run.omit(seen, reason);
+    match take_form(run, seen, form) {
+        Some(Reason::Unknown) => omit_unknown(run, seen),
+        Some(reason) => run.omit(seen, reason),
+        None => {}
     }
 }

@@ -104,6 +104,7 @@ impl Known {
         if let Some(text) = between(seen.argument(naming.path), b"\"", b"\"") {
             let mut path = Page::new(self.alloc);
             add_unescaped(&mut path, text);
+            self.note(&path);
             if !path.is_empty() {
                 self.find(&mut target, seen, naming, &path);
             }
@@ -149,6 +150,7 @@ impl Known {
         };
         let mut place = Page::new(self.alloc);
         add_unescaped(&mut place, noted);
+        self.note(&place);
         let is_known = match self.place_of(self.process.directory) {
             Some(known) => known.as_bytes() == place.as_bytes(),
             None => false,
@@ -172,6 +174,7 @@ impl Known {
         } else {
             return Kept::Unknown;
         }
+        self.note(&place);
         let tidy = self.tidied(&place);
         self.keep(tidy)
     }

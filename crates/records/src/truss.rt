@@ -3,7 +3,7 @@
 
 use crate::argument_parts::first_at_top;
 use crate::names::error_of_number;
-use crate::strace::{StraceLine, Told, call_of};
+use crate::strace::{StraceLine, System, Told, call_of};
 use crate::strace_results::{Answer, CallResult, UNTOLD, answer_of};
 use crate::strace_texts::{after, is_name, number, number_after};
 use texts::first_part;
@@ -90,6 +90,7 @@ pub(crate) fn read_truss_line(line: &[u8]) -> Option<StraceLine<'_>> {
     };
     let text = behind_seconds(behind_seconds(without_blanks(text)));
     Some(StraceLine {
+        system: System::FreeBsd,
         process: Some(process),
         told: told_by(text),
     })
