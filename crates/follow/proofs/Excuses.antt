@@ -4,7 +4,8 @@ use Rattle.std.specs.Prelude.{◌&&◌, ◌||◌, not, Option, Some, None, is_no
 use Rattle.std.specs.List.{filter, flat_map, list_all, list_any, remove, slice_get}
 use Rattle.rights.specs.Calls.{Call}
 use Rattle.rights.specs.Calls as calls
-use Rattle.records.specs.Calls.{RealOperand, Number, Path, Flags, Rights, Commands, Directory, RecordedOutcome, Succeeds, Fails, MadeCall, RecordedEvent, Called, Ended, Omitted, RecordEntry, RecordedCalls, is_counted}
+use Rattle.records.specs.Calls.{RealOperand, Number, Path, Flags, Rights, Commands, Directory, RecordedOutcome, Succeeds, Fails}
+use Rattle.records.specs.Calls.{MadeCall, RecordedEvent, Called, Ended, Omitted, RecordEntry, RecordedCalls, is_counted}
 use Rattle.follow.specs.Excused.{Tally, after_entry, after_move, after_moves, any_excused, counted_in, first_tally, has_past, if_made, is_past, numbers_by, numbers_of, skipped_in}
 use Rattle.follow.specs.Numbers.{Naming, is_of, named, named_from, of_child}
 use Rattle.follow.specs.Outcomes.{descriptor_count, freed, second_end}
