@@ -14,7 +14,7 @@ use Rattle.answers.specs.NoAnswers.{PlannedIsAccepted, copying_and_connecting}
 use Rattle.answers.proofs.LearntLaws.{not_there}
 use Rattle.answers.proofs.NoAnswerLaws.{same_ok, same_some}
 use Rattle.answers.specs.Planned.{Claim, HearsCalls, IsAcceptable, IsHonest, IsMarkedAcceptable, IsUnmarkedTask, SaysPlanned, WritesPlan}
-use Rattle.answers.specs.Planned.{check_words, heading, is_whole, last_words, left_behind, left_words, marked_text, marked_words, plan_text}
+use Rattle.answers.specs.Planned.{check_words, heading, is_whole, last_words, left_after, left_words, marked_text, marked_words, plan_text}
 
 pub acceptable : (text : List ℕ) (plan : Plan) (bounds : Certificate) → task_of text ≡ Ok plan → IsAccepted plan bounds → IsAcceptable text
 acceptable text plan bounds is accepted = record { plan = plan; is_task = is; bounds = bounds; accepted = accepted }
@@ -35,7 +35,7 @@ honest front name back claim named unmarked accepted marked =
     record { named = named; unmarked = unmarked; accepted = accepted; marked = marked }
 
 pub whole : (line : ℕ) (records : List RecordedCalls) (front name back text : List ℕ) (claim : Claim) → IsHonest front name back claim
-    → text ≡ plan_text front name back claim → left_behind line records ≤ claim.left → is_whole claim ≡ true → WritesPlan line records 0 text
+    → text ≡ plan_text front name back claim → left_after line records ≤ claim.left → is_whole claim ≡ true → WritesPlan line records 0 text
 whole line records front name back text claim is same counted all = record {
   front = front;
   name = name;
@@ -48,7 +48,7 @@ whole line records front name back text claim is same counted all = record {
 }
 
 pub not_whole : (line : ℕ) (records : List RecordedCalls) (front name back text : List ℕ) (claim : Claim) → IsHonest front name back claim
-    → text ≡ plan_text front name back claim → left_behind line records ≤ claim.left → is_whole claim ≡ false → WritesPlan line records 1 text
+    → text ≡ plan_text front name back claim → left_after line records ≤ claim.left → is_whole claim ≡ false → WritesPlan line records 1 text
 not_whole line records front name back text claim is same counted some = record {
   front = front;
   name = name;
@@ -141,7 +141,7 @@ one_is_left claim some all = let none = none_if claim.trusted claim.left all in 
 counts_one : (records : List RecordedCalls) (written : List ℕ) → (rest : List RecordedCalls) → records ≡ copying_and_connecting ∷ rest
     → WritesPlan 1 records 0 written ⊎ WritesNothing 0 written → ⊥
 counts_one records written rest same (inl said) =
-    one_is_left said.claim (subst (λ (rs : List RecordedCalls). left_behind 1 rs ≤ said.claim.left) same said.counted) (is_whole_at 0 said.claim refl said.says)
+    one_is_left said.claim (subst (λ (rs : List RecordedCalls). left_after 1 rs ≤ said.claim.left) same said.counted) (is_whole_at 0 said.claim refl said.says)
 counts_one records written rest same (inr said) = let clash = said.0 in cc
 
 never_refused : (files : List ℕ → Option (List ℕ)) (calls calls_text : List ℕ) (records : List RecordedCalls) (written : List ℕ)

@@ -3,7 +3,7 @@ use Rattle.std.proofs.Common.{◌≡◌, ℕ, true, false, List, [], ◌∷◌, 
 use Rattle.std.specs.Prelude.{Option, Some, None}
 use Rattle.records.specs.Calls.{RecordedCalls, are_calls}
 use Rattle.records.specs.Runs.{another_run}
-use Rattle.records.specs.Accounts.{ListTheOthers}
+use Rattle.records.specs.LineAccounts.{ListTheOthers}
 use Rattle.records.specs.Texts.{calls_text}
 use Rattle.texts.specs.Lines.{lines_of}
 use Rattle.answers.specs.Answered.{IsOfOneRun, SaysCalls, SaysWhether, has_calls}

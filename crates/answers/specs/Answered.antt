@@ -13,7 +13,7 @@ use Rattle.rules.specs.Expansions.{expansion}
 use Rattle.searcher.specs.Flat.{flat}
 use Rattle.follow.specs.Places.{Placing}
 use Rattle.follow.specs.Shows.{IsShown, Witness, events_of}
-use Rattle.records.specs.Accounts.{ListTheOthers}
+use Rattle.records.specs.LineAccounts.{ListTheOthers}
 use Rattle.records.specs.Calls.{RecordedCalls, are_calls}
 use Rattle.records.specs.Readings.{calls_of_text}
 use Rattle.records.specs.Runs.{another_run}

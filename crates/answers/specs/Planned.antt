@@ -101,17 +101,17 @@ last_process line found [] = found
 last_process line found (entry ∷ calls) = last_process line (if is_in_line line entry then Some entry.process else found) calls
 
 -- how many such calls that process makes behind the line
-abbrev pub is_left_behind : ℕ → ℕ → RecordEntry → Bool
-is_left_behind line process entry = nat_lt line entry.span.first && ((entry.process == process) && is_surely_left entry.event)
+abbrev pub is_left_after : ℕ → ℕ → RecordEntry → Bool
+is_left_after line process entry = nat_lt line entry.span.first && ((entry.process == process) && is_surely_left entry.event)
 
 abbrev pub left_by : ℕ → Option ℕ → RecordedCalls → ℕ
 left_by line None calls = 0
-left_by line (Some process) calls = count_by (is_left_behind line process) calls
+left_by line (Some process) calls = count_by (is_left_after line process) calls
 
 -- in the first file, or the greatest number that 32 bits hold
-abbrev pub left_behind : ℕ → List RecordedCalls → ℕ
-left_behind line [] = 0
-left_behind line (calls ∷ records) = min (left_by line (last_process line None calls) calls) (2 ^ 32 - 1)
+abbrev pub left_after : ℕ → List RecordedCalls → ℕ
+left_after line [] = 0
+left_after line (calls ∷ records) = min (left_by line (last_process line None calls) calls) (2 ^ 32 - 1)
 
 -- Such a text is written, whose last lines count no fewer: with status 0 if it says that a certificate of the task is accepted, and that nothing is left, and else
 -- with 1.
@@ -125,7 +125,7 @@ pub record WritesPlan (line : ℕ) (records : List RecordedCalls) (status : ℕ)
   pub claim : Claim
   pub honest : IsHonest front name back claim
   pub is_text : written ≡ plan_text front name back claim
-  pub counted : left_behind line records ≤ claim.left
+  pub counted : left_after line records ≤ claim.left
   pub says : ((status ≡ 0) × (is_whole claim ≡ true)) ⊎ ((status ≡ 1) × (is_whole claim ≡ false))
 
 -- of files of recorded calls, behind whose line the mode is to be entered

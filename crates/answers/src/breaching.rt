@@ -14,7 +14,7 @@ use crate::attacking::attack_text;
 use crate::refusals::Refusal;
 use checker::{BrokenRule, all_findings};
 use console::statuses::BROKEN;
-use explore::{Breach, Deeds, Explored, Goal, Watcher, explore, write_breach};
+use explore::{AttackActions, Breach, Explored, Goal, Watcher, explore, write_breach};
 use rights::Memory;
 use searcher::reached;
 use std::alloc::{AllocError, Global};
@@ -114,7 +114,7 @@ pub(crate) fn answer_breach<'a, P: Watcher>(
     let task = read_task(alloc, file)?;
     let bound = states.unwrap_or(MOST_STATES) as usize;
     let goals = goals_of(alloc, &task)?;
-    let deeds = Deeds::new(alloc, &task)?;
+    let deeds = AttackActions::new(alloc, &task)?;
     let explored = explore(alloc, &task, &deeds, &goals, bound, watcher)?;
     Ok(explored_answer(alloc, file, &task, &explored)?)
 }

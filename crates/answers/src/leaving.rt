@@ -2,7 +2,7 @@
 
 ghost use Rattle.std.specs.Prelude.{◌≡◌, ◌-◌, ◌^◌, None, count_by, map, min, option_map};
 ghost use Rattle.records.specs.EntryViews.{calls_seen, event_seen, record_entry_seen};
-ghost use Rattle.answers.specs.Planned.{is_in_line, is_left_behind, is_surely_left, last_process, left_behind, left_by};
+ghost use Rattle.answers.specs.Planned.{is_in_line, is_left_after, is_surely_left, last_process, left_after, left_by};
 
 use records::{Entry, Event, Reason};
 
@@ -28,8 +28,8 @@ fn is_in_line(line: u32, entry: &Entry) -> bool
 }
 
 /// Whether a process makes such a call behind a line.
-fn is_left_behind(line: u32, process: u32, entry: &Entry) -> bool
-    ensures { result ≡ is_left_behind line process (record_entry_seen entry.now) }
+fn is_left_after(line: u32, process: u32, entry: &Entry) -> bool
+    ensures { result ≡ is_left_after line process (record_entry_seen entry.now) }
 {
     let is_left = is_surely_left(&entry.event);
     line < entry.span.first && entry.process == process && is_left
@@ -50,11 +50,11 @@ fn process_in(line: u32, entries: &[Entry]) -> Option<u32>
 
 /// How many such calls a process makes behind a line.
 fn left_by(line: u32, process: u32, entries: &[Entry]) -> usize
-    ensures { result ≡ count_by (is_left_behind line process) (calls_seen entries.now) }
+    ensures { result ≡ count_by (is_left_after line process) (calls_seen entries.now) }
 {
     let mut count = 0;
     for entry in entries {
-        if is_left_behind(line, process, entry) {
+        if is_left_after(line, process, entry) {
             count += 1;
         }
     }
@@ -62,7 +62,7 @@ fn left_by(line: u32, process: u32, entries: &[Entry]) -> usize
 }
 
 /// How many such calls the process of a line makes behind it, or the greatest number that 32 bits hold.
-pub(crate) fn left_behind(line: u32, entries: &[Entry]) -> u32
+pub(crate) fn left_after(line: u32, entries: &[Entry]) -> u32
     ensures { result ≡ min (left_by line (last_process line None (calls_seen entries.now)) (calls_seen entries.now)) (2 ^ 32 - 1) }
 {
     let count = match process_in(line, entries) {

@@ -10,7 +10,7 @@ use crate::refusals::Refusal;
 use console::Source;
 use console::statuses::{BROKEN, DONE};
 use explain::Scene;
-use explore::{Deeds, Explored, FoundAttack, Watcher, explore};
+use explore::{AttackActions, Explored, FoundAttack, Watcher, explore};
 use page::{Html, add_sheet};
 use review::{Outcome, Reviewed, played_moves, sheet_of};
 use rights::Memory;
@@ -86,7 +86,7 @@ impl<'n> Shown<'n> {
     /// The page of a task for which no certificate is found: with the run that breaks something, if one is found.
     fn page_unfound<P: Watcher>(self, alloc: Global, watcher: &mut P) -> Result<Vec<u8>, Memory> {
         let goals = goals_in(alloc, &self.known.findings)?;
-        let deeds = Deeds::new(alloc, self.task)?;
+        let deeds = AttackActions::new(alloc, self.task)?;
         let bound = MOST_STATES as usize;
         let explored = explore(alloc, self.task, &deeds, &goals, bound, watcher)?;
         self.page_with_explored(alloc, &explored)

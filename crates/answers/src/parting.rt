@@ -1,6 +1,7 @@
 //! Where recorded calls part from a task, in words.
 
-use follow::{AtPoint, Parted, Placing, lies_at};
+use file_tree::lies_at;
+use follow::{AtPoint, Parted, Placing};
 use records::{Binding, Entry, Event, MadeCall, Operand, Outcome, add_event};
 use simulator::LineResult;
 use task::Task;
@@ -144,7 +145,7 @@ fn namesake_of<'a>(held: &Held<'_>, place: &'a [u8]) -> Option<Namesake<'a>> {
 }
 
 /// The first place that a call names from the root, or that its descriptor has.
-fn place_of(made: &MadeCall) -> Option<&[u8]> {
+fn path_of(made: &MadeCall) -> Option<&[u8]> {
     if let Some(Operand::Path(path)) = made.operands.first() {
         return Some(path);
     }
@@ -159,7 +160,7 @@ fn namesake_in<'a>(held: &Held<'_>, entry: &'a Entry) -> Option<Namesake<'a>> {
     let Event::Called(made) = &entry.event else {
         return None;
     };
-    match place_of(made) {
+    match path_of(made) {
         Some(place) if !held.is_placed(place) => namesake_of(held, place),
         _ => None,
     }

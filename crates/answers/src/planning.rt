@@ -2,7 +2,7 @@
 
 ghost use Rattle.std.specs.Prelude.{◌≡◌, ◌⊎◌, ◌++◌, ◌≤◌, IfOk, IfSome, map, string_bytes, true};
 ghost use Rattle.answers.specs.Planned.{HearsCalls, IsAcceptable, IsHonest, IsMarkedAcceptable, IsUnmarkedTask, SaysPlanned, WritesPlan};
-ghost use Rattle.answers.specs.Planned.{check_words, heading, last_words, left_behind, left_words, mark, marked_ending, plan_text};
+ghost use Rattle.answers.specs.Planned.{check_words, heading, last_words, left_after, left_words, mark, marked_ending, plan_text};
 ghost use Rattle.answers.specs.ClaimViews.{claim_seen};
 ghost use Rattle.answers.specs.Learnt.{WritesNothing};
 ghost use Rattle.records.specs.EntryViews.{calls_seen};
@@ -10,7 +10,7 @@ ghost use Rattle.texts.specs.PageViews.{Adds};
 
 use crate::answers::Answer;
 use crate::learning::{calls_of_files, nothing, why_nothing};
-use crate::leaving::left_behind;
+use crate::leaving::left_after;
 use crate::refusals::Refusal;
 use console::Source;
 use console::statuses::{BROKEN, DONE};
@@ -205,7 +205,7 @@ fn claimed(
     line: u32,
     records: &[Vec<Entry>],
 ) -> Result<Option<Answer>, Memory>
-    requires { left_behind line (map (λ entries. calls_seen entries.items) records.now) ≤ claim.left }
+    requires { left_after line (map (λ entries. calls_seen entries.items) records.now) ≤ claim.left }
     ensures { IfOk result (λ said. IfSome said (λ answer.
         WritesPlan line (map (λ entries. calls_seen entries.items) records.now) answer.status answer.text.items)) }
 {
@@ -221,11 +221,11 @@ fn claimed(
 
 /// How many calls a plan leaves: as many as it tells of, and no fewer than the process of the line surely leaves behind it.
 fn left_of(planned: &Planned, line: u32, records: &[Vec<Entry>]) -> u32
-    ensures { left_behind line (map (λ entries. calls_seen entries.items) records.now) ≤ result }
+    ensures { left_after line (map (λ entries. calls_seen entries.items) records.now) ≤ result }
 {
     let surely = match records {
         [] => 0,
-        [first, ..] => left_behind(line, first),
+        [first, ..] => left_after(line, first),
     };
     planned.left.max(surely)
 }

@@ -8,7 +8,7 @@ ghost use Rattle.answers.specs.FoundViews.{AreFor};
 ghost use Rattle.answers.specs.RunViews.{run_of, runs_of};
 ghost use Rattle.follow.specs.Shows.{IsShown};
 ghost use Rattle.follow.specs.TallyViews.{tally_of};
-ghost use Rattle.follow.specs.Views.{entries_behind, placing_of, placings_of, witness_of};
+ghost use Rattle.follow.specs.Views.{entries_after, placing_of, placings_of, witness_of};
 ghost use Rattle.records.specs.EntryViews.{calls_seen};
 ghost use Rattle.texts.specs.PageViews.{Adds};
 
@@ -39,7 +39,7 @@ pub(crate) enum Found<'c> {
 /// Adds that a call and others were skipped for one reason: how many, and the line of the first.
 #[tactic(auto, using(crate::proofs::ShownLaws::skipped_words))]
 fn add_skipped(page: &mut Page, words: &'static str, first: &&Entry, rest: &[&Entry])
-    ensures { Adds page.old page.new (reason_text words.now (entries_behind (first.now ∷ rest.now))) }
+    ensures { Adds page.old page.new (reason_text words.now (entries_after (first.now ∷ rest.now))) }
 {
     let count = rest.len() + 1;
     say!(page; "#  ", count, words, ", from line ", first.span.first, " on\n")
@@ -47,7 +47,7 @@ fn add_skipped(page: &mut Page, words: &'static str, first: &&Entry, rest: &[&En
 
 /// Adds how many calls were skipped for one reason, and the line of the first.
 fn add_reason(page: &mut Page, words: &'static str, entries: &[&Entry])
-    ensures { Adds page.old page.new (reason_text words.now (entries_behind entries.now)) }
+    ensures { Adds page.old page.new (reason_text words.now (entries_after entries.now)) }
 {
     match entries {
         [] => {}

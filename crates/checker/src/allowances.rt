@@ -19,7 +19,7 @@ ghost use Rattle.task.specs.Views.{first_descriptor_of, grants_of, start_of};
 
 use crate::rule::AuthorityRule;
 use certificate::{Authority, Ceiling, Cert, Class, Domain, End, Held, Side, Slot, Target};
-use rights::{Op, Rights};
+use rights::{Op, Rights, operations_of_rights};
 use task::{FirstDescriptor, FirstObject, Grant, Start, Task, grant_lists, node_begins};
 use texts::Name;
 use transfer::{channel_at, unknown_held};
@@ -184,16 +184,12 @@ fn lists_if_held(grants: &[Grant], ceiling: &Ceiling, right: Rights, operation: 
 pub fn keeps_ceiling(grants: &[Grant], ceiling: &Ceiling) -> bool
     ensures { result ≡ keeps_ceiling (grants_of grants.now) (ceiling_of ceiling.now) }
 {
-    lists_if_held(grants, ceiling, Rights::READ, Op::Read)
-        && lists_if_held(grants, ceiling, Rights::WRITE, Op::Write)
-        && lists_if_held(grants, ceiling, Rights::FTRUNCATE, Op::Write)
-        && lists_if_held(grants, ceiling, Rights::FSTAT, Op::Look)
-        && lists_if_held(grants, ceiling, Rights::CREATE, Op::Create)
-        && lists_if_held(grants, ceiling, Rights::FSTATAT, Op::Look)
-        && lists_if_held(grants, ceiling, Rights::MKDIRAT, Op::Create)
-        && lists_if_held(grants, ceiling, Rights::UNLINKAT, Op::Remove)
-        && lists_if_held(grants, ceiling, Rights::RENAMEAT_SOURCE, Op::Remove)
-        && lists_if_held(grants, ceiling, Rights::RENAMEAT_TARGET, Op::Create)
+    operations_of_rights().iter().all(|own| lists_if_held(
+        grants,
+        ceiling,
+        own.right,
+        own.operation,
+    ))
 }
 
 /// Whether nothing can be moved from one ceiling's grant into another's, since they are of one grant, or one of them lacks the right. (own)

@@ -16,14 +16,12 @@ use bitflags::Flags;
 use certificate::{Bound, Cert, Slot, Target};
 use checker::{Verdict, ceiling_at, expand, is_expanded};
 use console::{write_bytes, write_pieces};
+use rights::limits::RIGHTS;
 use rights::{Out, Rights, Stop};
 use std::alloc::Global;
 use task::{Grant, NamedProgram, Task};
 use text_checker::Checked;
 use texts::Decimal;
-
-/// The rights, without the two names behind them that are other names of rights among them.
-const OWN_RIGHTS: usize = 14;
 
 /// The greatest rights of a slot that may be open in the grant of this name.
 fn greatest_in(slot: &Slot, grant: &[u8]) -> Option<Rights>
@@ -73,7 +71,7 @@ fn write_rights<W: Out>(out: &mut W, set: Rights) -> Result<(), Stop>
         return write_bytes(out, b"none");
     }
     let mut separator: &[u8] = b"";
-    for right in &Rights::flags()[..OWN_RIGHTS] {
+    for right in &Rights::flags()[..RIGHTS] {
         if set.contains(right.value) {
             write_pieces(out, &[separator, right.name.as_bytes()])?;
             separator = b",";

@@ -3,8 +3,8 @@ use Rattle.std.proofs.Common.{◌≡◌, ℕ, Bool, true, false, List, [], ◌�
 use Rattle.std.specs.Prelude.{◌&&◌, Option, nat_eq, option_and_then, if◌then◌else◌}
 use Rattle.std.specs.Str.{bytes_eq}
 use Rattle.std.proofs.lemmas.Bool.{and_parts}
-use Rattle.file_tree.specs.Places.{names_text, slash}
-use Rattle.explore.specs.Breaches.{behind, ends_name, is_beneath, passes}
+use Rattle.file_tree.specs.Places.{ends_name, lies_at, names_text, slash}
+use Rattle.explore.specs.Breaches.{behind, is_beneath, passes}
 
 behind-by : (front text : List ℕ) → bytes_eq (take (length front) text) front ≡ true → behind front text ≡ Some (drop (length front) text)
 behind-by [] text is = refl
@@ -44,10 +44,11 @@ by-names (name ∷ place) text =
     go each None = refl
     go each (Some rest) = each rest
 
-pub beneath-by : (place : List (List ℕ)) (text : List ℕ) → bytes_eq (take (length (names_text place)) text) (names_text place) ≡ true →
-    ends_name (drop (length (names_text place)) text) ≡ is_beneath place text
-beneath-by place text is = sym (by-names place text ∙ ap (passes ends_name) (behind-by (names_text place) text is))
-
-pub not-beneath : (place : List (List ℕ)) (text : List ℕ) → bytes_eq (take (length (names_text place)) text) (names_text place) ≡ false →
-    false ≡ is_beneath place text
-not-beneath place text is = sym (by-names place text ∙ ap (passes ends_name) (not-behind (names_text place) text is))
+pub lies-beneath : (place : List (List ℕ)) (text : List ℕ) → lies_at (names_text place) text ≡ is_beneath place text
+unfolding lies_at
+lies-beneath place text = go (bytes_eq (take (length (names_text place)) text) (names_text place)) refl
+  where
+    go : (starts : Bool) → bytes_eq (take (length (names_text place)) text) (names_text place) ≡ starts
+        → (starts && ends_name (drop (length (names_text place)) text)) ≡ is_beneath place text
+    go true is = sym (by-names place text ∙ ap (passes ends_name) (behind-by (names_text place) text is))
+    go false is = sym (by-names place text ∙ ap (passes ends_name) (not-behind (names_text place) text is))

@@ -11,7 +11,8 @@ use Rattle.kernel.specs.Answers.{Effect}
 use Rattle.syscalls.specs.Shows.{shown}
 use Rattle.task.specs.Plans.{Grant}
 use Rattle.task.specs.Policies.{allows, is_allowed}
-use Rattle.explore.specs.Breaches.{allows_shown, behind, ends_name, is_beneath, passes}
+use Rattle.file_tree.specs.Places.{ends_name}
+use Rattle.explore.specs.Breaches.{allows_shown, behind, is_beneath, passes}
 
 same_byte : (b : ℕ) → nat_eq b b ≡ true
 same_byte b = eq-eqb b b refl

@@ -3,7 +3,7 @@ use Rattle.std.specs.Prelude.{◌≡◌, ◌<◌, true, false, List, [], ◌∷�
 use Rattle.rights.specs.Limits.{most_descriptors, register_count}
 use Rattle.rights.specs.Sets.{write_right}
 use Rattle.rights.specs.Values.{DescriptorNumber, RightSet}
-use Rattle.instruction_set.specs.CallNeeds.{first_operand}
+use Rattle.call_facts.specs.Arguments.{first_operand}
 use Rattle.instruction_set.specs.Programs.{Instruction, Invoke, Cap_rights_limit, Number, Operand}
 use Rattle.process.specs.State.{Deed}
 use Rattle.kernel.specs.Hostile.{Act, Own, Does}

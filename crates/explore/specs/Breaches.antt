@@ -6,7 +6,7 @@ use Rattle.rights.specs.Values.{Place, PathText}
 use Rattle.rights.specs.Errors.{Cause, CapMode, MissingRight}
 use Rattle.rights.specs.Operations.{Operation}
 use Rattle.rights.specs.OperationLists.{lists}
-use Rattle.file_tree.specs.Places.{slash}
+use Rattle.file_tree.specs.Places.{ends_name, slash}
 use Rattle.process.specs.State.{ProcessState}
 use Rattle.kernel.specs.Steps.{LineResult, Failed}
 use Rattle.syscalls.specs.Shows.{Shown}
@@ -24,11 +24,6 @@ abbrev pub behind : List ℕ → List ℕ → Option (List ℕ)
 behind [] text = Some text
 behind (b ∷ front) [] = None
 behind (b ∷ front) (c ∷ text) = if nat_eq c b then behind front text else None
-
--- A name of a place ends where its text ends, or before a `/`.
-abbrev pub ends_name : PathText → Bool
-ends_name [] = true
-ends_name (b ∷ text) = nat_eq b slash
 
 abbrev pub passes : (PathText → Bool) → Option PathText → Bool
 passes test None = false

@@ -77,7 +77,7 @@ impl Aims {
         runner: &Runner<'_>,
         refusals: u32,
     ) -> Result<(), Memory> {
-        let mut standing = Digest::new();
+        let mut status = Digest::new();
         let mut messages = 0u64;
         let mut steps = FAR;
         for number in 0..MAX_PROCESSES as u8 {
@@ -86,8 +86,8 @@ impl Aims {
             };
             let flags = u64::from(process.alive) << 1 | u64::from(process.mode());
             let sent = sent_by(runner.machine.files(), number);
-            standing.add(flags << 16 | u64::from(process.program) << 8 | u64::from(process.point));
-            standing.add(sent);
+            status.add(flags << 16 | u64::from(process.program) << 8 | u64::from(process.point));
+            status.add(sent);
             messages = messages.saturating_add(sent);
             if process.alive {
                 steps = steps.min(self.to_goals.from(process.program, process.point));
@@ -98,8 +98,8 @@ impl Aims {
             .saturating_mul(REFUSAL)
             .saturating_add(u64::from(steps).saturating_mul(STEP))
             .saturating_add(messages.saturating_mul(MESSAGE));
-        let again = self.stood.get(&standing).copied().unwrap_or(0);
-        self.stood.insert(standing, again.saturating_add(1))?;
+        let again = self.stood.get(&status).copied().unwrap_or(0);
+        self.stood.insert(status, again.saturating_add(1))?;
         self.by_refusals.push(waiting_number(place, refusals))?;
         self.by_cost.push(waiting_number(place, cost))?;
         self.by_novelty

@@ -2,7 +2,7 @@
 
 ghost use Rattle.std.specs.Prelude.{◌≡◌, IfOk, Some, length, map, true};
 ghost use Rattle.rights.specs.Limits.{most_descriptors};
-ghost use Rattle.instruction_set.specs.CallNeeds.{first_operand};
+ghost use Rattle.call_facts.specs.Arguments.{first_operand};
 ghost use Rattle.instruction_set.specs.Paths.{calls_with_valid_paths};
 ghost use Rattle.instruction_set.specs.Programs.{Number};
 ghost use Rattle.instruction_set.specs.Views.{instruction_of, syscall_of};
@@ -31,11 +31,11 @@ const NEW_NAME: &[u8] = b"x";
 /// An instruction that an attacker's process does in the place of its program's, behind which it stands at the start of its program with
 /// registers of 0. (own)
 #[derive(Drop)]
-pub struct Deed {
+pub struct AttackAction {
     instruction: Instruction,
 }
 
-impl Model for Deed {
+impl Model for AttackAction {
     ghost use Rattle.std.specs.Prelude.{◌≡◌, true};
     ghost use Rattle.instruction_set.specs.Paths.{calls_with_valid_paths};
     ghost use Rattle.instruction_set.specs.Programs.{Instruction};
@@ -48,13 +48,13 @@ impl Model for Deed {
     ghost invariant = { λ d. calls_with_valid_paths (instruction_of d.instruction) ≡ true };
 }
 
-impl Deed {
+impl AttackAction {
     /// The deed of an instruction, which is copied. Want of memory is the only error.
-    pub fn new(alloc: Global, instruction: &Instruction) -> Result<Deed, Memory>
+    pub fn new(alloc: Global, instruction: &Instruction) -> Result<AttackAction, Memory>
         ensures { IfOk result (λ deed. deed ≡ instruction_of instruction.now) }
     {
         let instruction = instruction.copy(alloc)?;
-        Ok(Deed { instruction })
+        Ok(AttackAction { instruction })
     }
 
     /// The instruction.
@@ -71,7 +71,7 @@ impl Deed {
 #[derive(Clone, Copy)]
 pub struct Move<'a> {
     pub event: Event,
-    pub deed: Option<&'a Deed>,
+    pub deed: Option<&'a AttackAction>,
 }
 
 impl<'a> Move<'a> {
@@ -86,18 +86,18 @@ impl<'a> Move<'a> {
 /// The deeds that are tried by a descriptor: those of any, those on names beneath a directory, and what limits it.
 #[derive(Drop)]
 pub(crate) struct ByNumber {
-    pub plain: Vec<Deed>,
-    pub named: Vec<Deed>,
-    pub limits: Vec<Deed>,
+    pub plain: Vec<AttackAction>,
+    pub named: Vec<AttackAction>,
+    pub limits: Vec<AttackAction>,
 }
 
 /// The deeds that are tried, by the number of the descriptor by which they go. A clause sees the list of their instructions of each number.
 #[derive(Drop)]
-pub struct Deeds {
+pub struct AttackActions {
     by_number: Vec<ByNumber>,
 }
 
-impl Model for Deeds {
+impl Model for AttackActions {
     ghost use Rattle.std.specs.Prelude.{List, map};
     ghost use Rattle.instruction_set.specs.Programs.{Instruction};
     ghost use Rattle.explore.specs.DeedViews.{deeds_in};
@@ -121,7 +121,7 @@ enum OnName {
 struct Growing {
     alloc: Global,
     number: u32,
-    deeds: Vec<Deed>,
+    deeds: Vec<AttackAction>,
     is_short: bool,
 }
 
@@ -138,7 +138,7 @@ impl Model for Growing {
 
 impl Growing {
     /// Adds a deed that goes by the descriptor, if there is memory for it.
-    fn push(&mut self, deed: Deed) -> Result<(), Memory>
+    fn push(&mut self, deed: AttackAction) -> Result<(), Memory>
         requires { GoesBy self.old deed }
         ensures { self.new ≡ self.old }
     {
@@ -152,7 +152,7 @@ impl Growing {
         ensures { self.new ≡ self.old }
     {
         let instruction = Instruction::Invoke { call, otherwise: 0 };
-        let deed = Deed::new(self.alloc, &instruction)?;
+        let deed = AttackAction::new(self.alloc, &instruction)?;
         self.push(deed)
     }
 
@@ -167,7 +167,7 @@ impl Growing {
     }
 
     /// Those that were added since the last time.
-    fn take(&mut self) -> Vec<Deed>
+    fn take(&mut self) -> Vec<AttackAction>
         ensures same { self.new ≡ self.old }
         ensures taken { GoBy self.old result.items }
     {
@@ -301,18 +301,18 @@ fn names_to_try(alloc: Global, task: &Task) -> Result<Vec<&[u8]>, Memory> {
 }
 
 /// The deed that limits the descriptor of a number to some rights.
-fn limit_by(alloc: Global, number: u32, rights: Rights) -> Result<Deed, Memory>
+fn limit_by(alloc: Global, number: u32, rights: Rights) -> Result<AttackAction, Memory>
     ensures { IfOk result (λ deed. deed ≡ limit_by number rights.0) }
 {
     let call = Syscall::CapRightsLimit {
         descriptor: Operand::Number(number),
         rights,
     };
-    Deed::new(alloc, &Instruction::Invoke { call, otherwise: 0 })
+    AttackAction::new(alloc, &Instruction::Invoke { call, otherwise: 0 })
 }
 
 /// What may be tried of limits by the descriptor of a number: that it leaves nothing, or writing alone.
-fn limits_by(alloc: Global, number: u32) -> Result<Vec<Deed>, Memory>
+fn limits_by(alloc: Global, number: u32) -> Result<Vec<AttackAction>, Memory>
     ensures { IfOk result (λ limits. limits.items ≡ limits_by number) }
 {
     let mut limits = Vec::new(alloc);
@@ -363,19 +363,19 @@ fn deeds_by_each(alloc: Global, task: &Task) -> Result<Vec<ByNumber>, Memory>
     Ok(by_number)
 }
 
-impl Deeds {
+impl AttackActions {
     /// What attackers of a task may try: nothing where no program is untrusted, and else calls by each number that a descriptor may have. Want of
     /// memory is the only error.
-    pub fn new(alloc: Global, task: &Task) -> Result<Deeds, Memory>
+    pub fn new(alloc: Global, task: &Task) -> Result<AttackActions, Memory>
         ensures { IfOk result (λ deeds. AreTried task.now deeds) }
     {
         if none_marked(task.programs()) {
-            return Ok(Deeds {
+            return Ok(AttackActions {
                 by_number: Vec::new(alloc),
             });
         }
         let by_number = deeds_by_each(alloc, task)?;
-        Ok(Deeds { by_number })
+        Ok(AttackActions { by_number })
     }
 
     /// Those by the descriptor of a number, if some are tried.

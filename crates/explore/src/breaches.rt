@@ -6,7 +6,7 @@ ghost use Rattle.syscalls.specs.Views.{effects_of};
 ghost use Rattle.task.specs.Views.{grants_of};
 ghost use Rattle.simulator.specs.Views.{acted_of, result_of};
 ghost use Rattle.explore.specs.Breaches.{breach_by, breach_in, outside, refusal};
-ghost use Rattle.explore.specs.BreachViews.{breach_of, standing_of};
+ghost use Rattle.explore.specs.BreachViews.{breach_of, status_of};
 
 use crate::policies::is_allowed;
 use process::Process;
@@ -56,7 +56,7 @@ fn refusal(outcome: LineResult) -> Option<Breach>
 
 /// What counts of a process before its step: whether it was in capability mode, and whether its program is untrusted.
 #[derive(Clone, Copy)]
-pub(crate) struct Standing {
+pub(crate) struct ActorStatus {
     pub in_mode: bool,
     pub is_marked: bool,
 }
@@ -65,19 +65,19 @@ pub(crate) struct Standing {
 fn broken_by(
     alloc: Global,
     grants: &[Grant],
-    standing: Standing,
+    status: ActorStatus,
     acted: &Acted,
 ) -> Result<Option<Breach>, Memory>
-    ensures { IfOk result (λ found. (s : ProcessState) → standing_of s ≡ standing
+    ensures { IfOk result (λ found. (s : ProcessState) → status_of s ≡ status
         → option_map breach_of found ≡ breach_by (grants_of grants.now) s (acted_of acted.now)) }
 {
-    if standing.in_mode {
+    if status.in_mode {
         let found = outside(alloc, grants, &acted.effects)?;
         if found.is_some() {
             return Ok(found);
         }
     }
-    if standing.is_marked {
+    if status.is_marked {
         return Ok(None);
     }
     Ok(refusal(acted.outcome))
@@ -87,17 +87,17 @@ fn broken_by(
 pub(crate) fn broken(
     alloc: Global,
     grants: &[Grant],
-    standing: Option<Standing>,
+    status: Option<ActorStatus>,
     acted: Option<&Acted>,
 ) -> Result<Option<Breach>, Memory>
-    ensures { IfOk result (λ found. (process : Option ProcessState) → option_map standing_of process ≡ standing
+    ensures { IfOk result (λ found. (process : Option ProcessState) → option_map status_of process ≡ status
         → option_map breach_of found ≡ breach_in (grants_of grants.now) process (option_map (λ a. acted_of a.now) acted.entry)) }
 {
-    let Some(standing) = standing else {
+    let Some(status) = status else {
         return Ok(None);
     };
     match acted {
         None => Ok(None),
-        Some(acted) => broken_by(alloc, grants, standing, acted),
+        Some(acted) => broken_by(alloc, grants, status, acted),
     }
 }

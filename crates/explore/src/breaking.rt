@@ -11,11 +11,11 @@ ghost use Rattle.simulator.specs.Steps.{StepsMachineAs};
 ghost use Rattle.simulator.specs.Views.{line_of};
 ghost use Rattle.explore.specs.Breaches.{breach_in};
 ghost use Rattle.explore.specs.Broken.{Breaks, IsRefuted};
-ghost use Rattle.explore.specs.BreachViews.{breach_of, standing_of};
+ghost use Rattle.explore.specs.BreachViews.{breach_of, status_of};
 ghost use Rattle.explore.specs.MoveViews.{act_of, are_paths_of, move_of};
 
 use crate::attacks::Move;
-use crate::breaches::{Breach, Standing, broken};
+use crate::breaches::{ActorStatus, Breach, broken};
 use file_tree::Tree;
 use link_tree::LinkTree;
 use rights::Stop;
@@ -32,12 +32,12 @@ pub(crate) struct Watched {
 }
 
 /// What counts of the process of this number, if it was made.
-fn standing<T: Tree>(machine: &Machine<'_, T>, process: u8) -> Option<Standing>
-    ensures { result ≡ option_map standing_of (slice_get machine.now.processes process) }
+fn status<T: Tree>(machine: &Machine<'_, T>, process: u8) -> Option<ActorStatus>
+    ensures { result ≡ option_map status_of (slice_get machine.now.processes process) }
 {
     match machine.processes().get(process as usize) {
         None => None,
-        Some(process) => Some(Standing {
+        Some(process) => Some(ActorStatus {
             in_mode: process.mode(),
             is_marked: process.is_marked(),
         }),
@@ -85,9 +85,9 @@ pub(crate) fn watched_step<T: Tree>(
     ensures memory { machine.old.spent ≡ false → IsWellFormed (programs_of_plan machine.old.plan) (machine_world machine.old)
         → OnErr result (IsErrOf result Stop.Memory) }
 {
-    let standing = standing(machine, next.event.process);
+    let status = status(machine, next.event.process);
     let line = step_by(machine, next)?;
-    let breach = broken(alloc, task.grants(), standing, line.acted.as_ref())?;
+    let breach = broken(alloc, task.grants(), status, line.acted.as_ref())?;
     Ok(Watched { line, breach })
 }
 

@@ -4,6 +4,7 @@ use crate::attacks::Move;
 use crate::breaches::Breach;
 use crate::runners::Runner;
 use bitflags::Flags;
+use call_facts::{Argument, Arguments, arguments_of, first_operand, second_operand};
 use instruction_set::{Operand, Syscall};
 use rights::{Call, Fcntls, Memory, OpenFlags, Position, Rights, needs};
 use std::alloc::Global;
@@ -51,32 +52,44 @@ fn add_lack(
 
 /// What a call needs of its first descriptor, or what a limit keeps of it.
 fn first_need(call: &Syscall) -> (Rights, Fcntls) {
-    match call {
-        Syscall::CapRightsLimit { rights, .. } => (*rights, Fcntls::empty()),
-        Syscall::CapFcntlsLimit { commands, .. } => (Rights::empty(), *commands),
+    match arguments_of(call) {
+        Arguments::Two(_, Argument::Rights(rights)) => (rights, Fcntls::empty()),
+        Arguments::Two(_, Argument::Commands(commands)) => (Rights::empty(), commands),
         _ => (call.first_rights(), call.command()),
     }
 }
 
-/// What a move needs of the directory that it moves to, where it replaces a node or not.
-fn second_need(replaces: bool) -> (Rights, Fcntls) {
+/// What a call needs of its second descriptor, where it replaces a node or not.
+fn second_need(call: &Syscall, replaces: bool) -> (Rights, Fcntls) {
     let flags = OpenFlags::unused();
-    let rights = needs(Call::Renameat, flags, Position::Second, replaces);
+    let rights = needs(call.call(), flags, Position::Second, replaces);
     (rights, Fcntls::empty())
+}
+
+/// Adds what the second descriptor of a call lacks, where it replaces a node or not. Whether it lacks something is told.
+fn add_second_lack(
+    page: &mut Page,
+    runner: &Runner<'_>,
+    process: u8,
+    call: &Syscall,
+    replaces: bool,
+) -> bool {
+    match second_operand(call) {
+        Some(second) => add_lack(page, runner, process, second, second_need(call, replaces)),
+        None => false,
+    }
 }
 
 /// Adds what is lacking for a call, as the kernel looks for it: first of the first descriptor, and last for a node that is replaced.
 fn add_first_lack(page: &mut Page, runner: &Runner<'_>, process: u8, call: &Syscall) {
-    let Some(first) = call.first_operand() else {
+    let Some(first) = first_operand(call) else {
         return;
     };
     if add_lack(page, runner, process, first, first_need(call)) {
         return;
     }
-    if let Syscall::Renameat { target, .. } = call {
-        if !add_lack(page, runner, process, *target, second_need(false)) {
-            add_lack(page, runner, process, *target, second_need(true));
-        }
+    if !add_second_lack(page, runner, process, call, false) {
+        add_second_lack(page, runner, process, call, true);
     }
 }
 

@@ -1,11 +1,11 @@
 //! The search for a run that breaks something, over the states of a task.
 
 use crate::aims::Aims;
-use crate::attacks::{Deeds, Move};
+use crate::attacks::{AttackActions, Move};
 use crate::digests::Digest;
 use crate::distances::Goal;
 use crate::exploring::HowFar;
-use crate::kept::Kept;
+use crate::machine_cache::MachineCache;
 use crate::moves::Tries;
 use crate::readable::Readable;
 use crate::runners::{Advance, Runner};
@@ -30,7 +30,7 @@ pub(crate) struct Explorer<'a> {
     order: Order,
     seen: IndexSet<Digest>,
     trails: Trails<'a>,
-    kept: Kept<'a>,
+    kept: MachineCache<'a>,
     /// What is looked for, if some points are.
     aims: Option<Aims>,
     /// How many states were gone on from, and those up to which place by breadth.
@@ -51,7 +51,7 @@ impl<'a> Explorer<'a> {
     pub(crate) fn new(
         alloc: Global,
         task: &'a Task,
-        deeds: &'a Deeds,
+        deeds: &'a AttackActions,
         goals: &[Goal],
         bound: usize,
     ) -> Result<Explorer<'a>, Memory> {
@@ -67,7 +67,7 @@ impl<'a> Explorer<'a> {
             order: Order::new(alloc),
             seen: IndexSet::new(alloc),
             trails: Trails::new(alloc),
-            kept: Kept::new(alloc, task.nodes().len())?,
+            kept: MachineCache::new(alloc, task.nodes().len())?,
             aims: Aims::new(alloc, task, goals)?,
             turns: 0,
             next: 0,

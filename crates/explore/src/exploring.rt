@@ -6,7 +6,7 @@ ghost use Rattle.explore.specs.Broken.{are_own};
 ghost use Rattle.explore.specs.FoundViews.{IsExplored};
 ghost use Rattle.explore.specs.MoveViews.{event_at, move_of};
 
-use crate::attacks::{Deeds, Move};
+use crate::attacks::{AttackActions, Move};
 use crate::breaches::Breach;
 use crate::breaking::breaks;
 use crate::details::detail_of;
@@ -161,7 +161,7 @@ fn searched<'a, W: Watcher>(
 pub fn explore<'a, W: Watcher>(
     alloc: Global,
     task: &'a Task,
-    deeds: &'a Deeds,
+    deeds: &'a AttackActions,
     goals: &[Goal],
     bound: usize,
     watcher: &mut W,

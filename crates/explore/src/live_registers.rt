@@ -1,6 +1,7 @@
 //! Which registers a program may still look at.
 
 use crate::register_sets::{ANSWER, ENDS, ERROR, NONE, RegisterSet};
+use call_facts::{TableChange, looks_at, table_change};
 use instruction_set::{Instruction, Register, Syscall, successors_at};
 use rights::Memory;
 use rights::limits::{MAX_INSTRUCTIONS, REGISTERS};
@@ -12,12 +13,20 @@ fn looked_at(instruction: &Instruction) -> RegisterSet {
     let mut found = NONE;
     for number in 0..REGISTERS as u8 {
         if let Some(register) = Register::new(number) {
-            if instruction.looks_at(register) {
+            if looks_at(instruction, register) {
                 found = found.with(RegisterSet::one(number));
             }
         }
     }
     found
+}
+
+/// The registers that the success of a call sets.
+fn answered(call: &Syscall) -> RegisterSet {
+    match table_change(call.call()) {
+        TableChange::Pair => ENDS,
+        _ => ANSWER,
+    }
 }
 
 /// The registers that may be looked at from an instruction on, by those that may be where it goes on to the next one, and where it jumps.
@@ -26,11 +35,9 @@ fn live_before(instruction: &Instruction, next: RegisterSet, other: RegisterSet)
         Instruction::Set { register, .. }
         | Instruction::In { register }
         | Instruction::Mov { register, .. } => { next.without(RegisterSet::one(register.number())) }
-        Instruction::Invoke {
-            call: Syscall::Socketpair,
-            ..
-        } => next.without(ENDS).with(other.without(ERROR)),
-        Instruction::Invoke { .. } => next.without(ANSWER).with(other.without(ERROR)),
+        Instruction::Invoke { call, .. } => {
+            next.without(answered(call)).with(other.without(ERROR))
+        }
         _ => next.with(other),
     };
     later.with(looked_at(instruction))

@@ -6,14 +6,19 @@ ghost use Rattle.explore.specs.Broken.{own_moves};
 ghost use Rattle.explore.specs.Moves.{tried};
 ghost use Rattle.explore.specs.MoveViews.{move_of};
 
-use crate::attacks::{Deed, Deeds, Move};
+use crate::attacks::{AttackAction, AttackActions, Move};
 use crate::runners::Runner;
 use crate::states::open_at;
+use call_facts::{
+    Argument, Arguments, NameChange, Passed, Scope, TableChange, arguments_of, first_operand,
+    first_operations, may_be_refused, name_change, opening_flags, passed_by, scope_of,
+    second_operand, table_change, value_operand,
+};
 use fd_table::{Description, Descriptor, End, Object};
 use file_tree::NodeId;
 use instruction_set::{Instruction, Operand, Syscall};
 use rights::limits::{MAX_DESCRIPTORS, MAX_PROCESSES};
-use rights::{Memory, Op};
+use rights::{Memory, Op, OpenFlags};
 use syscalls::Event;
 
 /// How many messages of an attacker are on their way at most: more can be sent when they were taken.
@@ -37,18 +42,22 @@ fn has_end(runner: &Runner<'_>, process: u8) -> bool {
     false
 }
 
+/// Whether a call of a process frees the number of an end of a socket pair.
+fn frees_end(runner: &Runner<'_>, process: u8, call: &Syscall) -> bool {
+    match (table_change(call.call()), first_operand(call)) {
+        (TableChange::Freed, Some(descriptor)) => is_end(runner.descriptor(process, descriptor)),
+        _ => false,
+    }
+}
+
 /// Whether an instruction of a process changes nothing that another process sees, and sees nothing that another changes.
 fn is_own(runner: &Runner<'_>, process: u8, instruction: &Instruction) -> bool {
     match instruction {
         Instruction::Halt => !has_end(runner, process),
-        Instruction::Invoke { call, .. } => match call {
-            Syscall::CapEnter
-            | Syscall::CapGetmode
-            | Syscall::CapRightsLimit { .. }
-            | Syscall::CapFcntlsLimit { .. }
-            | Syscall::Dup { .. } => true,
-            Syscall::Close { descriptor } => !is_end(runner.descriptor(process, *descriptor)),
-            _ => false,
+        Instruction::Invoke { call, .. } => match scope_of(call.call()) {
+            Scope::Mode => true,
+            Scope::Table => !frees_end(runner, process, call),
+            Scope::Object | Scope::Node | Scope::Root | Scope::Beneath | Scope::System => false,
         },
         _ => true,
     }
@@ -79,7 +88,7 @@ fn add_events(
             }
             Ok(())
         }
-        Instruction::Invoke { call, .. } if call.may_be_refused() => {
+        Instruction::Invoke { call, .. } if may_be_refused(call.call()) => {
             moves.push(Move::own(step))?;
             moves.push(Move::own(Event {
                 refuse: true,
@@ -91,6 +100,18 @@ fn add_events(
             moves.push(Move::own(step))?;
             Ok(())
         }
+    }
+}
+
+/// What a call by a descriptor of a node does there, or what an open lets its process do there.
+fn aimed_at(call: &Syscall) -> Option<Op> {
+    match opening_flags(call) {
+        Some(flags) if flags.create() => Some(Op::Create),
+        Some(flags) if flags.write() => Some(Op::Write),
+        Some(_) => Some(Op::Read),
+        None => first_operations(call.call(), OpenFlags::unused())
+            .first()
+            .copied(),
     }
 }
 
@@ -118,43 +139,46 @@ impl<'r, 'a> Attack<'r, 'a> {
     /// Whether a call by a descriptor of a node does there, or lets its process do there afterwards, what the node's grant doesn't list. One byte
     /// that is written stands for all.
     fn goes_beyond(&self, node: NodeId, call: &Syscall) -> bool {
-        let op = match call {
-            Syscall::Renameat { target, .. } if self.leads_beyond(*target) => return true,
-            Syscall::Read { .. } => Op::Read,
-            Syscall::Write {
-                value: Operand::Number(0),
-                ..
-            } => Op::Write,
-            Syscall::Ftruncate { .. } => Op::Write,
-            Syscall::Fstat { .. } | Syscall::Fstatat { .. } => Op::Look,
-            Syscall::Mkdirat { .. } => Op::Create,
-            Syscall::Unlinkat { .. } | Syscall::Renameat { .. } => Op::Remove,
-            Syscall::Openat { flags, .. } if flags.create() => Op::Create,
-            Syscall::Openat { flags, .. } if flags.write() => Op::Write,
-            Syscall::Openat { .. } => Op::Read,
-            _ => return false,
-        };
-        !self.runner.lists(node, op)
+        if name_change(call.call()) == NameChange::Moved
+            && second_operand(call).is_some_and(|target| self.leads_beyond(target))
+        {
+            return true;
+        }
+        if passed_by(call.call()) == Passed::ByteOut
+            && value_operand(call) != Some(Operand::Number(0))
+        {
+            return false;
+        }
+        match aimed_at(call) {
+            Some(op) => !self.runner.lists(node, op),
+            None => false,
+        }
+    }
+
+    /// Whether the second descriptor of a call is open.
+    fn has_second(&self, call: &Syscall) -> bool {
+        match second_operand(call) {
+            Some(second) => self.runner.descriptor(self.process, second).is_some(),
+            None => false,
+        }
     }
 
     /// Whether a call by an end of a socket pair tells something to whoever has the other, or takes what that sends.
     fn is_heard(&self, end: End, call: &Syscall) -> bool {
         let has_room = self.runner.machine.files().sent(end).len() < MAX_SENT;
-        match call {
-            Syscall::Sendfd { sent, .. } => {
-                has_room && self.runner.descriptor(self.process, *sent).is_some()
-            }
-            Syscall::Write { .. } => has_room,
-            Syscall::Read { .. } | Syscall::Recvfd { .. } => true,
-            _ => false,
+        match passed_by(call.call()) {
+            Passed::DescriptorOut => has_room && self.has_second(call),
+            Passed::ByteOut => has_room,
+            Passed::ByteIn | Passed::DescriptorIn => true,
+            Passed::Nothing => false,
         }
     }
 
     /// Whether a call should be tried. A limit that leaves less should where the descriptor can be sent.
     fn should(&self, call: &Syscall) -> bool {
         let rights = self.descriptor.rights;
-        if let Syscall::CapRightsLimit { rights: left, .. } = call {
-            return rights.contains(*left) && *left != rights && has_end(self.runner, self.process);
+        if let Arguments::Two(_, Argument::Rights(left)) = arguments_of(call) {
+            return rights.contains(left) && left != rights && has_end(self.runner, self.process);
         }
         if !rights.contains(call.first_rights()) {
             return false;
@@ -166,7 +190,11 @@ impl<'r, 'a> Attack<'r, 'a> {
     }
 
     /// Adds those of some deeds that should be tried.
-    fn add_those<'d>(&self, deeds: &'d [Deed], moves: &mut Vec<Move<'d>>) -> Result<(), Memory> {
+    fn add_those<'d>(
+        &self,
+        deeds: &'d [AttackAction],
+        moves: &mut Vec<Move<'d>>,
+    ) -> Result<(), Memory> {
         let event = Event {
             process: self.process,
             input: 0,
@@ -189,7 +217,7 @@ impl<'r, 'a> Attack<'r, 'a> {
 /// What is tried from a state: the bytes for `in`, and what attackers do.
 #[derive(Drop)]
 pub(crate) struct Tries<'a> {
-    pub deeds: &'a Deeds,
+    pub deeds: &'a AttackActions,
     pub bytes: Vec<u8>,
     /// A step that reads a byte doesn't go first: it needn't be chosen before it is needed.
     pub inputs_wait: bool,

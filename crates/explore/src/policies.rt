@@ -4,27 +4,17 @@ ghost use Rattle.std.specs.Prelude.{◌≡◌};
 ghost use Rattle.std.specs.List.{list_any};
 ghost use Rattle.syscalls.specs.Views.{effect_of};
 ghost use Rattle.task.specs.Views.{grants_of};
-ghost use Rattle.explore.specs.Breaches.{allows_shown, ends_name, is_beneath};
+ghost use Rattle.explore.specs.Breaches.{allows_shown, is_beneath};
 
-use file_tree::Place;
+use file_tree::{Place, lies_at};
 use syscalls::Effect;
 use task::Grant;
-
-/// Whether a name of a place ends before a text.
-fn ends_name(text: &[u8]) -> bool
-    ensures { result ≡ ends_name text.now }
-{
-    matches!(text, [] | [b'/', ..])
-}
 
 /// Whether a text is that of a place, or of one beneath it.
 fn is_beneath(place: &Place, text: &[u8]) -> bool
     ensures { result ≡ is_beneath place.now text.now }
 {
-    match text.strip_prefix(place.names_text()) {
-        None => false,
-        Some(rest) => ends_name(rest),
-    }
+    lies_at(place.names_text(), text)
 }
 
 /// The place in a policy of the first grant that holds the place of a text.

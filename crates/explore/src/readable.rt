@@ -1,8 +1,9 @@
 //! What of a state its programs may ask: files' contents, and registers.
 
 use crate::live_registers::LiveRegisters;
+use call_facts::{NameChange, first_path, name_change, opening_flags};
 use file_tree::Kind;
-use instruction_set::{Instruction, Syscall};
+use instruction_set::Instruction;
 use lookup::last_name;
 use rights::Memory;
 use std::alloc::Global;
@@ -36,13 +37,11 @@ impl<'a> Readable<'a> {
                 let Instruction::Invoke { call, .. } = instruction else {
                     continue;
                 };
-                match call {
-                    Syscall::Renameat { .. } => any = true,
-                    Syscall::Open { path, flags } | Syscall::Openat { path, flags, .. }
-                        if flags.read() && !path.bytes().ends_with(b"/") => {
-                        names.push(last_name(path.bytes()))?
+                any = any || name_change(call.call()) == NameChange::Moved;
+                if let (Some(path), Some(flags)) = (first_path(call), opening_flags(call)) {
+                    if flags.read() && !path.ends_with(b"/") {
+                        names.push(last_name(path))?;
                     }
-                    _ => {}
                 }
             }
         }

@@ -1,7 +1,7 @@
 //! The states that were met, and the moves that lead to them.
 
 use crate::attacks::Move;
-use crate::kept::Kept;
+use crate::machine_cache::MachineCache;
 use rights::Memory;
 use std::alloc::Global;
 
@@ -112,7 +112,7 @@ impl<'a> Trails<'a> {
     pub(crate) fn way_to(
         &self,
         place: Option<usize>,
-        kept: Option<&Kept<'_>>,
+        kept: Option<&MachineCache<'_>>,
     ) -> Result<Vec<usize>, Memory> {
         let mut way = Vec::new(self.alloc);
         let mut next = place;

@@ -1,6 +1,7 @@
 //! The bytes that are tried where a program reads one.
 
 use crate::register_sets::{ANSWER, NONE, RegisterSet};
+use call_facts::{Answer, answer_of, value_operand};
 use instruction_set::{Instruction, Syscall};
 use rights::Memory;
 use rights::limits::{MAX_PROGRAMS, REGISTERS};
@@ -12,6 +13,15 @@ use task::{Task, none_marked};
 struct Readers {
     programs: Vec<RegisterSet>,
     is_passed_on: bool,
+}
+
+/// Whether the answer of a call may be what was given to another one.
+fn gives_back(call: &Syscall) -> bool {
+    match answer_of(call.call()) {
+        Answer::Byte | Answer::Offset | Answer::StatusFlags => true,
+        Answer::Zero | Answer::One | Answer::Kind => false,
+        Answer::ModeBit | Answer::Number | Answer::Process => false,
+    }
 }
 
 /// The registers that may hold a byte that was read behind an instruction, by those that may before it.
@@ -30,10 +40,9 @@ fn holding_behind(
             register,
             addend: from,
         } if holding.has(from.number()) => holding.with(RegisterSet::one(register.number())),
-        Instruction::Invoke {
-            call: Syscall::Read { .. } | Syscall::Lseek { .. } | Syscall::FcntlGetfl { .. },
-            ..
-        } if is_passed_on => holding.with(ANSWER),
+        Instruction::Invoke { call, .. } if is_passed_on && gives_back(call) => holding.with(
+            ANSWER,
+        ),
         _ => holding,
     }
 }
@@ -41,7 +50,7 @@ fn holding_behind(
 /// Whether an instruction writes a byte that was read, or leaves it where another may ask for it.
 fn passes_on(instruction: &Instruction, holding: RegisterSet) -> bool {
     match instruction {
-        Instruction::Invoke { call, .. } => match call.value_operand() {
+        Instruction::Invoke { call, .. } => match value_operand(call) {
             None => false,
             Some(value) => holding.has_some(RegisterSet::of(value)),
         },

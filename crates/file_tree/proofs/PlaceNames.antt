@@ -9,7 +9,7 @@ use Rattle.std.specs.Prelude.{◌&&◌, ◌==◌, not, slice_get}
 use Rattle.std.proofs.lemmas.Bool.{eqb-true, ne_eqb, and_parts}
 use Rattle.std.specs.Cmp.Derive.{both_true}
 use Rattle.texts.specs.Parts.{parts, parts_from}
-use Rattle.file_tree.specs.Places.{above, at_name, begins, names_text, place_text, same_place, slash}
+use Rattle.file_tree.specs.Places.{above, at_name, begins, ends_name, lies_at, names_text, place_text, same_place, slash}
 use Rattle.file_tree.specs.PlaceViews.{LastName, is_one_name, is_place_text, names_of}
 use Rattle.file_tree.proofs.PlaceLaws.{above_at_name, at_name_length, begins_is, begins_from, rest_same, same_place_from, same_place_is}
 
@@ -124,6 +124,14 @@ begins-otherwise front text front_is text_is starts =
     let more = names_text (drop (length (names_of front)) (names_of text)) in
     let start : take (length front) text ≡ front = ap (take (length front)) (begins-parted front text front_is text_is begins_so) ∙ take-append_seam front more in
     sym starts ∙ (bytes_eq-Decides (take (length front) text) front).1 start)
+
+pub begins-text : (front text : List ℕ) → is_place_text front ≡ true → is_place_text text ≡ true → lies_at front text ≡ begins (names_of front) (names_of text)
+unfolding lies_at
+begins-text front text front_is text_is = go (bytes_eq (take (length front) text) front) refl
+  where
+    go : (starts : Bool) → bytes_eq (take (length front) text) front ≡ starts → (starts && ends_name (drop (length front) text)) ≡ begins (names_of front) (names_of text)
+    go true is = begins-rest front text front_is text_is is
+    go false is = begins-otherwise front text front_is text_is is
 
 -- what is behind a place's front is put behind another
 pub record Moved (from to text : List ℕ) : Type 0 where

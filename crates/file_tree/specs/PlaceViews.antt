@@ -2,7 +2,7 @@
 use Rattle.std.specs.Prelude.{◌≡◌, ℕ, Bool, true, not, nat_eq, List, [], ◌∷◌, ◌++◌, Option, Some, None}
 use Rattle.std.specs.List.{list_all}
 use Rattle.texts.specs.Parts.{parts}
-use Rattle.file_tree.specs.Places.{slash}
+use Rattle.file_tree.specs.Places.{ends_name, slash}
 
 -- the names in a place's text: each stands behind a `/`
 abbrev pub names_of : List ℕ → List (List ℕ)
@@ -11,8 +11,7 @@ names_of (b ∷ text) = parts slash text
 
 -- a place's text begins with a `/`, but for the root's, which is empty
 abbrev pub is_place_text : List ℕ → Bool
-is_place_text [] = true
-is_place_text (b ∷ text) = nat_eq b slash
+is_place_text text = ends_name text
 
 -- a name that holds no `/` is one name in a place's text
 abbrev pub is_one_name : List ℕ → Bool

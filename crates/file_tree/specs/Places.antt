@@ -1,5 +1,5 @@
 -- Names, and places as lists of names. (own, but for what the manual pages beside it say)
-use Rattle.std.specs.Prelude.{ℕ, ◌+◌, ◌-◌, Bool, true, false, ◌&&◌, ◌||◌, not, nat_eq, nat_le, List, [], ◌∷◌, ◌++◌, codes, length, take, if◌then◌else◌}
+use Rattle.std.specs.Prelude.{ℕ, ◌+◌, ◌-◌, Bool, true, false, ◌&&◌, ◌||◌, not, nat_eq, nat_le, List, [], ◌∷◌, ◌++◌, codes, drop, length, take, if◌then◌else◌}
 use Rattle.std.specs.List.{list_all}
 use Rattle.std.specs.Str.{bytes_eq}
 use Rattle.rights.specs.Values.{Name, Place, PathText}
@@ -7,6 +7,15 @@ use Rattle.rights.specs.Limits.{most_name, most_path}
 
 abbrev pub slash : ℕ
 slash = 47
+
+-- a name of a place ends where its text ends, or before a `/`
+abbrev pub ends_name : PathText → Bool
+ends_name [] = true
+ends_name (b ∷ text) = nat_eq b slash
+
+-- Whether a path is that of a place, or leads beneath it. The place is written without a slash at its end, so that of the root is empty. (own)
+unfoldable pub lies_at : PathText → PathText → Bool
+lies_at place path = bytes_eq (take (length place) path) place && ends_name (drop (length place) path)
 
 abbrev pub quote : ℕ
 quote = 34

@@ -18,5 +18,5 @@ pub use copies::CopyTree;
 pub use faults::TreeFault;
 pub use names::{is_path_name, is_valid_name, is_valid_target};
 pub use nodes::{Kind, New, NodeId};
-pub use places::{Names, Place};
+pub use places::{Names, Place, ends_name, lies_at, rest_beneath};
 pub use tree::Tree;

@@ -1,12 +1,12 @@
 //! Places: the names from the root down, compared, printed and made.
 
-ghost use Rattle.std.specs.Prelude.{◌≡◌, ◌≤◌, ◌++◌, ◌-◌, ◌&&◌, [], ℕ, List, true, false, drop, length, take, slice_get, IfOk, OnOk, OnErr, MatchOption};
+ghost use Rattle.std.specs.Prelude.{◌≡◌, ◌≤◌, ◌++◌, ◌-◌, ◌&&◌, [], ℕ, List, true, false, drop, is_some, length, take, slice_get, IfOk, IfSome, OnOk, OnErr, MatchOption};
 ghost use Rattle.std.specs.Option.{option_copied};
 ghost use Rattle.std.specs.Iterator.{YieldsFirstBy, item_count};
 ghost use Rattle.std.specs.Cmp.Lexicographic.{slice_cmp};
 ghost use Rattle.std.specs.Ordering.{nat_cmp};
 ghost use Rattle.texts.specs.Parts.{parts};
-ghost use Rattle.file_tree.specs.Places.{above, at_name, begins, names_text, path_components, place_text, same_place, slash, with_name};
+ghost use Rattle.file_tree.specs.Places.{above, at_name, begins, ends_name, lies_at, names_text, path_components, place_text, same_place, slash, with_name};
 ghost use Rattle.file_tree.specs.PlaceViews.{LastName, is_one_name, is_place_text, names_of};
 
 use std::alloc::{AllocError, Global};
@@ -97,11 +97,34 @@ fn moved_text(alloc: Global, from: &[u8], to: &[u8], text: &[u8]) -> Result<Vec<
     Ok(moved)
 }
 
-/// Whether a text is at the end of a name.
-fn ends_name(text: &[u8]) -> bool
-    ensures { result ≡ is_place_text text.now }
+/// Whether a name of a place ends before a text.
+pub fn ends_name(text: &[u8]) -> bool
+    ensures { result ≡ ends_name text.now }
 {
     matches!(text, [] | [b'/', ..])
+}
+
+/// Whether a path is that of a place, or leads beneath it. The place is written without a slash at its end, so that of the root is empty. (own)
+#[tactic(auto, unfolding(crate::specs::Places::lies_at))]
+pub fn lies_at(place: &[u8], path: &[u8]) -> bool
+    ensures { result ≡ lies_at place.now path.now }
+{
+    match path.strip_prefix(place) {
+        None => false,
+        Some(rest) => ends_name(rest),
+    }
+}
+
+/// What stands behind a place in a path that is its own, with which nothing does, or that leads beneath it.
+#[tactic(auto, unfolding(crate::specs::Places::lies_at))]
+pub fn rest_beneath<'p>(place: &[u8], path: &'p [u8]) -> Option<&'p [u8]>
+    ensures beneath { is_some result ≡ lies_at place.now path.entry.now }
+    ensures rest { IfSome result (λ rest. rest.now ≡ drop (length place.now) path.entry.now) }
+{
+    match path.strip_prefix(place) {
+        None => None,
+        Some(rest) => { if ends_name(rest) { Some(rest) } else { None } }
+    }
 }
 
 impl Place {
@@ -236,10 +259,7 @@ impl Place {
     pub fn begins_with(&self, front: &Place) -> bool
         ensures { result ≡ begins front.now self.now }
     {
-        match self.text.strip_prefix(front.text.as_slice()) {
-            None => false,
-            Some(rest) => ends_name(rest),
-        }
+        lies_at(&front.text, &self.text)
     }
 
     /// Whether it begins with the names of a path, of which empty ones count for nothing.

@@ -9,8 +9,8 @@ use Rattle.std.proofs.lemmas.Option.{slice_get-map}
 use Rattle.records.specs.declared.entries.Entry.{Entry as EntryCode}
 use Rattle.records.specs.Calls.{RecordEntry, RecordedCalls}
 use Rattle.records.specs.EntryViews.{record_entry_seen}
-use Rattle.follow.specs.Standings.{if_next, kept, may_overtake, next_entry}
-use Rattle.follow.specs.Views.{entries_behind}
+use Rattle.follow.specs.Progress.{if_next, kept, may_overtake, next_entry}
+use Rattle.follow.specs.Views.{entries_after}
 
 map-both : {A B : Type 0} (f : A → B) (xs ys : List A) → map f xs ++ map f ys ≡ map f (xs ++ ys)
 map-both f [] ys = refl
@@ -23,16 +23,16 @@ remove-map f xs i =
 
 -- the next entry, by that of the same place behind the references
 pub next-behind : (left : List (Bor EntryCode)) (i : ℕ) (e : Bor EntryCode) → slice_get left i ≡ Some e →
-    next_entry (entries_behind left) i
-    ≡ (if list_all (may_overtake (record_entry_seen e.now)) (entries_behind (take i left)) then Some (record_entry_seen e.now) else None)
+    next_entry (entries_after left) i
+    ≡ (if list_all (may_overtake (record_entry_seen e.now)) (entries_after (take i left)) then Some (record_entry_seen e.now) else None)
 next-behind left i e is =
-    ap (option_and_then (if_next (entries_behind left) i)) (slice_get-map (λ (r : Bor EntryCode). record_entry_seen r.now) left i ∙ ap (option_map (λ (r : Bor EntryCode). record_entry_seen r.now)) is)
+    ap (option_and_then (if_next (entries_after left) i)) (slice_get-map (λ (r : Bor EntryCode). record_entry_seen r.now) left i ∙ ap (option_map (λ (r : Bor EntryCode). record_entry_seen r.now)) is)
     ∙ ap (λ others. if list_all (may_overtake (record_entry_seen e.now)) others then Some (record_entry_seen e.now) else None)
     (take-map (λ (r : Bor EntryCode). record_entry_seen r.now) i left)
 
-pub none-behind : (left : List (Bor EntryCode)) (i : ℕ) → slice_get left i ≡ None → next_entry (entries_behind left) i ≡ None
+pub none-behind : (left : List (Bor EntryCode)) (i : ℕ) → slice_get left i ≡ None → next_entry (entries_after left) i ≡ None
 none-behind left i is =
-    ap (option_and_then (if_next (entries_behind left) i)) (slice_get-map (λ (r : Bor EntryCode). record_entry_seen r.now) left i ∙ ap (option_map (λ (r : Bor EntryCode). record_entry_seen r.now)) is)
+    ap (option_and_then (if_next (entries_after left) i)) (slice_get-map (λ (r : Bor EntryCode). record_entry_seen r.now) left i ∙ ap (option_map (λ (r : Bor EntryCode). record_entry_seen r.now)) is)
 
 -- what is kept so far, and then of those that are left
 pub kept-more : (before after : RecordedCalls) (e : RecordEntry) (left all : RecordedCalls) → after ≡ before ++ kept e → before ++ flat_map kept (e ∷ left) ≡ all →

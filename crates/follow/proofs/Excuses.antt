@@ -2,21 +2,20 @@
 use Rattle.std.proofs.Common.{◌≡◌, ◌==◌, ℕ, zero, suc, Bool, true, false, List, [], ◌∷◌, ◌++◌, map, refl, ap, sym, ◌∙◌}
 use Rattle.std.specs.Prelude.{◌&&◌, ◌||◌, not, Option, Some, None, is_none, is_some, if◌then◌else◌}
 use Rattle.std.specs.List.{filter, flat_map, list_all, list_any, remove, slice_get}
-use Rattle.rights.specs.Calls.{Call}
-use Rattle.rights.specs.Calls as calls
+use Rattle.call_facts.specs.Facts.{TableChange, Unchanged, Opened, Inherited, Copied, Received, Pair, Child, Freed, Limited, descriptor_count, facts_of}
 use Rattle.records.specs.Calls.{RealOperand, Number, Path, Flags, Rights, Commands, Directory, RecordedOutcome, Succeeds, Fails}
 use Rattle.records.specs.Calls.{MadeCall, RecordedEvent, Called, Ended, Omitted, RecordEntry, RecordedCalls, is_counted}
 use Rattle.follow.specs.Excused.{Tally, after_entry, after_move, after_moves, any_excused, counted_in, first_tally, has_past, if_made, is_past, numbers_by, numbers_of, skipped_in}
-use Rattle.follow.specs.Numbers.{Naming, is_of, named, named_from, of_child}
-use Rattle.follow.specs.Outcomes.{descriptor_count, freed, second_end}
+use Rattle.follow.specs.Numbers.{FdMapping, is_of, named, named_from, of_child}
+use Rattle.follow.specs.Outcomes.{freed, second_end}
 use Rattle.follow.specs.Places.{Placing}
 use Rattle.follow.specs.Samples.{NoExcuseWithin}
 use Rattle.follow.specs.Shows.{Move, Steps, Skips}
-use Rattle.follow.specs.Standings.{kept}
+use Rattle.follow.specs.Progress.{kept}
 
 -- no number of these was made by an excused call
-abbrev is_clear : List Naming → Bool
-is_clear numbers = list_all (λ (n : Naming). is_none n.model) numbers
+abbrev is_clear : List FdMapping → Bool
+is_clear numbers = list_all (λ (n : FdMapping). is_none n.model) numbers
 
 both : (a b : Bool) → a ≡ true → b ≡ true → (a && b) ≡ true
 both true b first second = second
@@ -42,7 +41,7 @@ no-either : (a b : Bool) → a ≡ false → b ≡ false → (a || b) ≡ false
 no-either true b first second = absurd cc
 no-either false b first second = second
 
-unmarked : (numbers : List Naming) (before : Option ℕ) (p n : ℕ) → is_none before ≡ true → is_clear numbers ≡ true → is_some (named_from before numbers p n) ≡ false
+unmarked : (numbers : List FdMapping) (before : Option ℕ) (p n : ℕ) → is_none before ≡ true → is_clear numbers ≡ true → is_some (named_from before numbers p n) ≡ false
 unmarked [] None p n none is = refl
 unmarked [] (Some m) p n none is = absurd cc
 unmarked (m ∷ numbers) before p n none is =
@@ -53,7 +52,7 @@ unmarked (m ∷ numbers) before p n none is =
     go true first second = second
     go false first second = first
 
-none-excused : (numbers : List Naming) (p count : ℕ) (operands : List RealOperand) → is_clear numbers ≡ true → any_excused numbers p count operands ≡ false
+none-excused : (numbers : List FdMapping) (p count : ℕ) (operands : List RealOperand) → is_clear numbers ≡ true → any_excused numbers p count operands ≡ false
 none-excused numbers p zero operands is = refl
 none-excused numbers p (suc count) [] is = refl
 none-excused numbers p (suc count) (Number n ∷ operands) is =
@@ -64,20 +63,20 @@ none-excused numbers p (suc count) (Rights rights ∷ operands) is = none-excuse
 none-excused numbers p (suc count) (Commands commands ∷ operands) is = none-excused numbers p (suc count) operands is
 none-excused numbers p (suc count) (Directory asked ∷ operands) is = none-excused numbers p (suc count) operands is
 
-clear-append : (before after : List Naming) → is_clear before ≡ true → is_clear after ≡ true → is_clear (before ++ after) ≡ true
+clear-append : (before after : List FdMapping) → is_clear before ≡ true → is_clear after ≡ true → is_clear (before ++ after) ≡ true
 clear-append [] after first second = second
 clear-append (m ∷ before) after first second =
     both (is_none m.model) (is_clear (before ++ after)) (left-of (is_none m.model) (is_clear before) first)
     (clear-append before after (right-of (is_none m.model) (is_clear before) first) second)
 
-clear-child : (numbers : List Naming) (p child : ℕ) → is_clear numbers ≡ true
-    → is_clear (map (of_child child) (filter (λ (n : Naming). n.process == p) numbers)) ≡ true
+clear-child : (numbers : List FdMapping) (p child : ℕ) → is_clear numbers ≡ true
+    → is_clear (map (of_child child) (filter (λ (n : FdMapping). n.process == p) numbers)) ≡ true
 clear-child [] p child is = refl
 clear-child (m ∷ numbers) p child is = go (m.process == p) (left-of (is_none m.model) (is_clear numbers) is) (clear-child numbers p child (right-of (is_none m.model) (is_clear numbers) is))
   where
-    go : (b : Bool) → is_none m.model ≡ true → is_clear (map (of_child child) (filter (λ (n : Naming). n.process == p) numbers)) ≡ true
-        → is_clear (map (of_child child) (if b then m ∷ filter (λ (n : Naming). n.process == p) numbers else filter (λ (n : Naming). n.process == p) numbers)) ≡ true
-    go true first rest = both (is_none m.model) (is_clear (map (of_child child) (filter (λ (n : Naming). n.process == p) numbers))) first rest
+    go : (b : Bool) → is_none m.model ≡ true → is_clear (map (of_child child) (filter (λ (n : FdMapping). n.process == p) numbers)) ≡ true
+        → is_clear (map (of_child child) (if b then m ∷ filter (λ (n : FdMapping). n.process == p) numbers else filter (λ (n : FdMapping). n.process == p) numbers)) ≡ true
+    go true first rest = both (is_none m.model) (is_clear (map (of_child child) (filter (λ (n : FdMapping). n.process == p) numbers))) first rest
     go false first rest = rest
 
 clear-freed : (p : ℕ) (operands : List RealOperand) → is_clear (freed p operands) ≡ true
@@ -93,37 +92,20 @@ clear-made : (p : ℕ) (n : Option ℕ) → is_clear (if_made p n false) ≡ tru
 clear-made p None = refl
 clear-made p (Some n) = refl
 
-clear-by : (numbers : List Naming) (p : ℕ) (made : MadeCall) (call : Call) (n : ℕ) → is_clear numbers ≡ true → is_clear (numbers_by numbers p made call n false) ≡ true
-clear-by numbers p made calls.Open n is = refl
-clear-by numbers p made calls.Openat n is = refl
-clear-by numbers p made calls.Dup n is = refl
-clear-by numbers p made calls.Recvfd n is = refl
-clear-by numbers p made calls.Socketpair n is = clear-append (if_made p (Some n) false) (if_made p (second_end made.bindings) false) refl (clear-made p (second_end made.bindings))
-clear-by numbers p made calls.Close n is = clear-freed p made.operands
-clear-by numbers p made calls.Fork n is = clear-child numbers p n is
-clear-by numbers p made calls.Read n is = refl
-clear-by numbers p made calls.Write n is = refl
-clear-by numbers p made calls.Sendfd n is = refl
-clear-by numbers p made calls.Lseek n is = refl
-clear-by numbers p made calls.Ftruncate n is = refl
-clear-by numbers p made calls.Fsync n is = refl
-clear-by numbers p made calls.Fstat n is = refl
-clear-by numbers p made calls.Fcntl_getfl n is = refl
-clear-by numbers p made calls.Fcntl_setfl n is = refl
-clear-by numbers p made calls.Fstatat n is = refl
-clear-by numbers p made calls.Stat n is = refl
-clear-by numbers p made calls.Mkdirat n is = refl
-clear-by numbers p made calls.Mkdir n is = refl
-clear-by numbers p made calls.Unlinkat n is = refl
-clear-by numbers p made calls.Unlink n is = refl
-clear-by numbers p made calls.Renameat n is = refl
-clear-by numbers p made calls.Cap_rights_limit n is = refl
-clear-by numbers p made calls.Cap_fcntls_limit n is = refl
-clear-by numbers p made calls.Cap_enter n is = refl
-clear-by numbers p made calls.Cap_getmode n is = refl
+clear-by : (numbers : List FdMapping) (p : ℕ) (made : MadeCall) (change : TableChange) (n : ℕ) → is_clear numbers ≡ true
+    → is_clear (numbers_by numbers p made change n false) ≡ true
+clear-by numbers p made Opened n is = refl
+clear-by numbers p made Inherited n is = refl
+clear-by numbers p made Copied n is = refl
+clear-by numbers p made Received n is = refl
+clear-by numbers p made Pair n is = clear-append (if_made p (Some n) false) (if_made p (second_end made.bindings) false) refl (clear-made p (second_end made.bindings))
+clear-by numbers p made Freed n is = clear-freed p made.operands
+clear-by numbers p made Child n is = clear-child numbers p n is
+clear-by numbers p made Limited n is = refl
+clear-by numbers p made Unchanged n is = refl
 
-clear-of : (numbers : List Naming) (p : ℕ) (made : MadeCall) (outcome : RecordedOutcome) → is_clear numbers ≡ true → is_clear (numbers_of numbers p made outcome false) ≡ true
-clear-of numbers p made (Succeeds n) is = clear-by numbers p made made.call n is
+clear-of : (numbers : List FdMapping) (p : ℕ) (made : MadeCall) (outcome : RecordedOutcome) → is_clear numbers ≡ true → is_clear (numbers_of numbers p made outcome false) ≡ true
+clear-of numbers p made (Succeeds n) is = clear-by numbers p made (facts_of made.call).table n is
 clear-of numbers p made (Fails errno) is = refl
 
 module _ (placings : List Placing) where

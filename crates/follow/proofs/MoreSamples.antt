@@ -8,7 +8,7 @@ use Rattle.file_tree.specs.WellFormed.{is_within_limits}
 use Rattle.kernel.specs.Steps.{answered, jumped, executed, stepped_at, stepped_by, stepped, step}
 use Rattle.records.specs.Calls.{Ended}
 use Rattle.task.specs.Begins.{first_files, first_world}
-use Rattle.follow.specs.Places.{lies_at}
+use Rattle.file_tree.specs.Places.{lies_at}
 use Rattle.follow.specs.Samples.{SomeCallsAreExcused, SomePathsAreForeign, by_moves, idle, next, opens, two_lines}
 use Rattle.follow.specs.Shows.{Shows, Skips}
 

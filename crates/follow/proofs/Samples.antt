@@ -20,7 +20,7 @@ use Rattle.kernel.specs.Steps.{answered, jumped, executed, stepped_at, stepped_b
 use Rattle.records.specs.Calls.{Succeeds, Fails, Ended}
 use Rattle.records.specs.Calls as real
 use Rattle.task.specs.Begins.{first_files, first_world}
-use Rattle.follow.specs.Places.{lies_at}
+use Rattle.file_tree.specs.Places.{lies_at}
 use Rattle.follow.specs.Samples.{SomeRunsShow, reading, entering, enters, overlapping, apart, reading_both, later_line_first, at_line, calls_with}
 use Rattle.follow.specs.Samples.{closes, copies, copying, four_lines, four_steps, by_moves, next, opening, opens, placings, reads, silent, steps, two_lines, writes}
 use Rattle.follow.specs.Shows.{Judges, Shows, Skips}

@@ -2,17 +2,16 @@
 -- task and the limits alone, and neither by the task's grants nor by its programs. (own)
 use Rattle.std.specs.Prelude.{◌&&◌, ◌||◌, not, nat_eq, ℕ, zero, suc, Bool, true, false, List, [], ◌∷◌, ◌++◌, length, Option, Some, None, is_some, if◌then◌else◌}
 use Rattle.std.specs.List.{flat_map, list_any, remove, slice_get}
-use Rattle.rights.specs.Calls.{Call}
-use Rattle.rights.specs.Calls as calls
+use Rattle.call_facts.specs.Facts.{TableChange, Unchanged, Opened, Inherited, Copied, Received, Pair, Child, Freed, Limited, descriptor_count, facts_of}
 use Rattle.rights.specs.Values.{PathText}
 use Rattle.file_tree.specs.Places.{is_target}
 use Rattle.instruction_set.specs.Programs.{is_path}
 use Rattle.records.specs.Calls.{RealOperand, Number, Path, RecordedOutcome, Succeeds, Fails, MadeCall, RecordedEvent, Called, Ended, Omitted, RecordEntry, RecordedCalls}
-use Rattle.follow.specs.Numbers.{Naming, child_namings, named, naming}
-use Rattle.follow.specs.Outcomes.{descriptor_count, freed, second_end}
+use Rattle.follow.specs.Numbers.{FdMapping, child_mappings, named, mapping}
+use Rattle.follow.specs.Outcomes.{freed, second_end}
 use Rattle.follow.specs.Places.{Placing, placed}
 use Rattle.follow.specs.Shows.{Move, Steps, Skips}
-use Rattle.follow.specs.Standings.{kept}
+use Rattle.follow.specs.Progress.{kept}
 
 -- ## Paths
 -- A task can have the path: its bytes stand in assembly, it is no longer than a path may be, and no name of it than a name.
@@ -25,34 +24,35 @@ is_past placings (Path path) = not (is_within path) && not (is_within (placed pl
 is_past placings operand = false
 
 -- ## Numbers
--- The numbers of the record's processes that excused calls made are kept as namings: such a number stands for itself, and any other for none.
+-- The numbers of the record's processes that excused calls made are kept as mappings: such a number stands for itself, and any other for none.
 abbrev pub if_excused : Bool → ℕ → Option ℕ
 if_excused excused n = if excused then Some n else None
 
 -- whether one of so many numbers, those that stand first, was made by an excused call
-abbrev pub any_excused : List Naming → ℕ → ℕ → List RealOperand → Bool
+abbrev pub any_excused : List FdMapping → ℕ → ℕ → List RealOperand → Bool
 any_excused numbers p zero operands = false
 any_excused numbers p (suc count) [] = false
 any_excused numbers p (suc count) (Number n ∷ operands) = is_some (named numbers p n) || any_excused numbers p count operands
 any_excused numbers p (suc count) (_ ∷ operands) = any_excused numbers p (suc count) operands
 
-abbrev pub if_made : ℕ → Option ℕ → Bool → List Naming
+abbrev pub if_made : ℕ → Option ℕ → Bool → List FdMapping
 if_made p None excused = []
-if_made p (Some n) excused = naming p n (if_excused excused n) ∷ []
+if_made p (Some n) excused = mapping p n (if_excused excused n) ∷ []
 
 -- what a call makes or frees that came to this number; a child has the numbers of its parent
-abbrev pub numbers_by : List Naming → ℕ → MadeCall → Call → ℕ → Bool → List Naming
-numbers_by numbers p made calls.Open n excused = if_made p (Some n) excused
-numbers_by numbers p made calls.Openat n excused = if_made p (Some n) excused
-numbers_by numbers p made calls.Dup n excused = if_made p (Some n) excused
-numbers_by numbers p made calls.Recvfd n excused = if_made p (Some n) excused
-numbers_by numbers p made calls.Socketpair n excused = if_made p (Some n) excused ++ if_made p (second_end made.bindings) excused
-numbers_by numbers p made calls.Close n excused = freed p made.operands
-numbers_by numbers p made calls.Fork n excused = child_namings numbers p n
-numbers_by numbers p made _ n excused = []
+abbrev pub numbers_by : List FdMapping → ℕ → MadeCall → TableChange → ℕ → Bool → List FdMapping
+numbers_by numbers p made Opened n excused = if_made p (Some n) excused
+numbers_by numbers p made Inherited n excused = if_made p (Some n) excused
+numbers_by numbers p made Copied n excused = if_made p (Some n) excused
+numbers_by numbers p made Received n excused = if_made p (Some n) excused
+numbers_by numbers p made Pair n excused = if_made p (Some n) excused ++ if_made p (second_end made.bindings) excused
+numbers_by numbers p made Freed n excused = freed p made.operands
+numbers_by numbers p made Child n excused = child_mappings numbers p n
+numbers_by numbers p made Limited n excused = []
+numbers_by numbers p made Unchanged n excused = []
 
-abbrev pub numbers_of : List Naming → ℕ → MadeCall → RecordedOutcome → Bool → List Naming
-numbers_of numbers p made (Succeeds n) excused = numbers_by numbers p made made.call n excused
+abbrev pub numbers_of : List FdMapping → ℕ → MadeCall → RecordedOutcome → Bool → List FdMapping
+numbers_of numbers p made (Succeeds n) excused = numbers_by numbers p made (facts_of made.call).table n excused
 numbers_of numbers p made (Fails errno) excused = []
 
 -- ## Calls
@@ -60,7 +60,7 @@ numbers_of numbers p made (Fails errno) excused = []
 -- those that were skipped: excused for a path past a limit, excused for a number that an excused call made, and not excused.
 pub record Tally : Type 0 where
   pub left : RecordedCalls
-  pub numbers : List Naming
+  pub numbers : List FdMapping
   pub shown : RecordedCalls
   pub skipped : RecordedCalls
   pub past : RecordedCalls

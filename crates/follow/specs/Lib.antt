@@ -2,7 +2,7 @@ pub mod Places
 pub mod Numbers
 pub mod Given
 pub mod Outcomes
-pub mod Standings
+pub mod Progress
 pub mod Shows
 pub mod Moves
 pub mod Excused

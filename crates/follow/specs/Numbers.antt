@@ -34,36 +34,36 @@ is_injection (pair ∷ pairs) = list_all (are_apart pair) pairs && is_injection 
 
 -- ## Descriptors
 -- From here on this number of a process of the task stands for a number of the recorded process, or none does.
-pub record Naming : Type 0 where
+pub record FdMapping : Type 0 where
   pub process : ProcessNumber
   pub real : ℕ
   pub model : Option DescriptorNumber
 
-abbrev pub naming : ProcessNumber → ℕ → Option DescriptorNumber → Naming
-naming p real model = record { process = p; real = real; model = model }
+abbrev pub mapping : ProcessNumber → ℕ → Option DescriptorNumber → FdMapping
+mapping p real model = record { process = p; real = real; model = model }
 
-abbrev pub is_of : ProcessNumber → ℕ → Naming → Bool
+abbrev pub is_of : ProcessNumber → ℕ → FdMapping → Bool
 is_of p real n = (n.process == p) && (n.real == real)
 
--- what stands for a number: the last naming of it says so
-abbrev pub named_from : Option DescriptorNumber → List Naming → ProcessNumber → ℕ → Option DescriptorNumber
+-- what stands for a number: the last mapping of it says so
+abbrev pub named_from : Option DescriptorNumber → List FdMapping → ProcessNumber → ℕ → Option DescriptorNumber
 named_from before [] p real = before
-named_from before (n ∷ namings) p real = named_from (if is_of p real n then n.model else before) namings p real
+named_from before (n ∷ mappings) p real = named_from (if is_of p real n then n.model else before) mappings p real
 
-abbrev pub named : List Naming → ProcessNumber → ℕ → Option DescriptorNumber
-named namings p real = named_from None namings p real
+abbrev pub named : List FdMapping → ProcessNumber → ℕ → Option DescriptorNumber
+named mappings p real = named_from None mappings p real
 
 -- At the start the descriptors of the task's processes stand for those of the same numbers.
-abbrev pub given_namings : ProcessNumber → List FirstDescriptor → List Naming
-given_namings p descriptors = map (λ (d : FirstDescriptor). naming p d.number (Some d.number)) descriptors
+abbrev pub given_mappings : ProcessNumber → List FirstDescriptor → List FdMapping
+given_mappings p descriptors = map (λ (d : FirstDescriptor). mapping p d.number (Some d.number)) descriptors
 
-abbrev pub first_namings : ProcessNumber → List Start → List Naming
-first_namings p [] = []
-first_namings p (s ∷ starts) = given_namings p s.descriptors ++ first_namings (p + 1) starts
+abbrev pub first_mappings : ProcessNumber → List Start → List FdMapping
+first_mappings p [] = []
+first_mappings p (s ∷ starts) = given_mappings p s.descriptors ++ first_mappings (p + 1) starts
 
 -- a child has the numbers of its parent
-abbrev pub of_child : ProcessNumber → Naming → Naming
+abbrev pub of_child : ProcessNumber → FdMapping → FdMapping
 of_child child n = record n { process = child }
 
-abbrev pub child_namings : List Naming → ProcessNumber → ProcessNumber → List Naming
-child_namings namings parent child = map (of_child child) (filter (λ (n : Naming). n.process == parent) namings)
+abbrev pub child_mappings : List FdMapping → ProcessNumber → ProcessNumber → List FdMapping
+child_mappings mappings parent child = map (of_child child) (filter (λ (n : FdMapping). n.process == parent) mappings)

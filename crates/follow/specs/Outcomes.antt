@@ -2,18 +2,21 @@
 use Rattle.std.specs.Prelude.{◌==◌, ◌&&◌, ◌||◌, not, ℕ, zero, suc, Bool, true, false, List, [], ◌∷◌, Option, Some, None, is_none, option_map, if◌then◌else◌}
 use Rattle.std.specs.Bool.{beq}
 use Rattle.std.specs.List.{slice_get}
+use Rattle.std.specs.Option.{option_and_then}
 use Rattle.rights.specs.Calls.{Call}
-use Rattle.rights.specs.Calls as calls
+use Rattle.call_facts.specs.Arguments.{first_operand}
+use Rattle.call_facts.specs.Facts.{Answer, Byte, Process, TableChange, Unchanged, Opened, Inherited, Copied, Received, Pair, Child, Freed, Limited}
+use Rattle.call_facts.specs.Facts.{Passed, None_passed, Byte_in, Byte_out, Descriptor_in, Descriptor_out, facts_of, is_of_mode}
 use Rattle.rights.specs.Errors.{errno_number}
 use Rattle.rights.specs.Values.{DescriptorNumber, ProcessNumber}
 use Rattle.process.specs.State.{ProcessState}
-use Rattle.instruction_set.specs.Programs.{Syscall, Read, Write, called}
+use Rattle.instruction_set.specs.Programs.{Syscall, called}
 use Rattle.kernel.specs.Answers.{operand_value}
 use Rattle.kernel.specs.Steps.{LineResult, No_call, Halted, Value, Failed, Waiting, Walks_on, Ended, Programs, register}
 use Rattle.kernel.specs.Walks.{call_in}
 use Rattle.simulator.specs.Lines.{ShownStep}
 use Rattle.records.specs.Calls.{RealOperand, Number, RecordedOutcome, Succeeds, Fails, Binding, Is_place, Is_end, MadeCall}
-use Rattle.follow.specs.Numbers.{Naming, ProcessPair, child_namings, is_number, model_of, named, naming}
+use Rattle.follow.specs.Numbers.{FdMapping, ProcessPair, child_mappings, is_number, model_of, named, mapping}
 
 -- A process of the task before a step: its registers, and the call at its point.
 pub record Before : Type 0 where
@@ -44,13 +47,13 @@ seen_at programs process shown after = seen_by (option_map (before_at programs) 
 
 -- ## Outcomes
 -- Both reads are at an end, or neither; a child stands for the other; of other numbers nothing is asked.
-abbrev pub same_answer : List ProcessPair → Call → ℕ → ℕ → Bool
-same_answer pairs calls.Read n m = beq (n == 0) (m == 256)
-same_answer pairs calls.Fork n m = is_number (model_of pairs n) m
+abbrev pub same_answer : List ProcessPair → Answer → ℕ → ℕ → Bool
+same_answer pairs Byte n m = beq (n == 0) (m == 256)
+same_answer pairs Process n m = is_number (model_of pairs n) m
 same_answer pairs _ n m = true
 
 abbrev pub same_outcome : List ProcessPair → Call → RecordedOutcome → LineResult → Bool
-same_outcome pairs call (Succeeds n) (Value m) = same_answer pairs call n m
+same_outcome pairs call (Succeeds n) (Value m) = same_answer pairs (facts_of call).answer n m
 same_outcome pairs call (Fails errno) (Failed other cause) = errno_number errno == errno_number other
 same_outcome pairs call _ _ = false
 
@@ -61,28 +64,29 @@ second_end [] = None
 second_end (Is_place descriptor place ∷ bindings) = second_end bindings
 second_end (Is_end descriptor pair side ∷ bindings) = if side == 1 then Some descriptor else second_end bindings
 
-abbrev pub if_there : ProcessNumber → Option ℕ → DescriptorNumber → List Naming
+abbrev pub if_there : ProcessNumber → Option ℕ → DescriptorNumber → List FdMapping
 if_there p None model = []
-if_there p (Some real) model = naming p real (Some model) ∷ []
+if_there p (Some real) model = mapping p real (Some model) ∷ []
 
-abbrev pub freed : ProcessNumber → List RealOperand → List Naming
-freed p (Number real ∷ operands) = naming p real None ∷ []
+abbrev pub freed : ProcessNumber → List RealOperand → List FdMapping
+freed p (Number real ∷ operands) = mapping p real None ∷ []
 freed p _ = []
 
 -- A success of process p, with these numbers in the record and in the task, where the second number of a pair is this one.
-abbrev pub namings_by : List Naming → ProcessNumber → MadeCall → Call → ℕ → ℕ → ℕ → List Naming
-namings_by namings p made calls.Open n m second = naming p n (Some m) ∷ []
-namings_by namings p made calls.Openat n m second = naming p n (Some m) ∷ []
-namings_by namings p made calls.Dup n m second = naming p n (Some m) ∷ []
-namings_by namings p made calls.Recvfd n m second = naming p n (Some m) ∷ []
-namings_by namings p made calls.Socketpair n m second = naming p n (Some m) ∷ if_there p (second_end made.bindings) second
-namings_by namings p made calls.Close n m second = freed p made.operands
-namings_by namings p made calls.Fork n m second = child_namings namings p m
-namings_by namings p made _ n m second = []
+abbrev pub mappings_by : List FdMapping → ProcessNumber → MadeCall → TableChange → ℕ → ℕ → ℕ → List FdMapping
+mappings_by mappings p made Opened n m second = mapping p n (Some m) ∷ []
+mappings_by mappings p made Inherited n m second = mapping p n (Some m) ∷ []
+mappings_by mappings p made Copied n m second = mapping p n (Some m) ∷ []
+mappings_by mappings p made Received n m second = mapping p n (Some m) ∷ []
+mappings_by mappings p made Pair n m second = mapping p n (Some m) ∷ if_there p (second_end made.bindings) second
+mappings_by mappings p made Freed n m second = freed p made.operands
+mappings_by mappings p made Child n m second = child_mappings mappings p m
+mappings_by mappings p made Limited n m second = []
+mappings_by mappings p made Unchanged n m second = []
 
-abbrev pub namings_of : List Naming → ProcessNumber → MadeCall → RecordedOutcome → LineResult → ℕ → List Naming
-namings_of namings p made (Succeeds n) (Value m) second = namings_by namings p made made.call n m second
-namings_of namings p made _ _ second = []
+abbrev pub mappings_of : List FdMapping → ProcessNumber → MadeCall → RecordedOutcome → LineResult → ℕ → List FdMapping
+mappings_of mappings p made (Succeeds n) (Value m) second = mappings_by mappings p made (facts_of made.call).table n m second
+mappings_of mappings p made _ _ second = []
 
 -- ## Repeats
 -- a read or a write through a descriptor
@@ -90,10 +94,15 @@ pub data Transfer : Type 0 where
   Reads : (descriptor : DescriptorNumber) → Transfer
   Writes : (descriptor : DescriptorNumber) → Transfer
 
+abbrev pub transfer_through : Passed → DescriptorNumber → Option Transfer
+transfer_through Byte_in n = Some (Reads n)
+transfer_through Byte_out n = Some (Writes n)
+transfer_through Descriptor_in n = None
+transfer_through Descriptor_out n = None
+transfer_through None_passed n = None
+
 abbrev pub transfer_by : List ℕ → Syscall → Option Transfer
-transfer_by registers (Read x) = Some (Reads (operand_value registers x))
-transfer_by registers (Write x v) = Some (Writes (operand_value registers x))
-transfer_by registers _ = None
+transfer_by registers call = option_and_then (λ x. transfer_through (facts_of (called call)).passed (operand_value registers x)) (first_operand call)
 
 -- what was transferred in a step, if it succeeded
 abbrev pub transfer_in : List ℕ → Option Syscall → LineResult → Option Transfer
@@ -125,13 +134,6 @@ is_repeat history p None = false
 is_repeat history p (Some t) = repeats_from false history p t
 
 -- ## Steps that show nothing
-abbrev pub is_of_mode : Call → Bool
-is_of_mode calls.Cap_enter = true
-is_of_mode calls.Cap_getmode = true
-is_of_mode calls.Cap_rights_limit = true
-is_of_mode calls.Cap_fcntls_limit = true
-is_of_mode _ = false
-
 abbrev pub is_call_of_mode : Option Syscall → Bool
 is_call_of_mode None = false
 is_call_of_mode (Some call) = is_of_mode (called call)
@@ -154,27 +156,25 @@ abbrev pub is_silent : Bool → List Past → ProcessNumber → Seen → Bool
 is_silent limited history p seen = is_silent_by seen.outcome (is_silent_call limited history p seen)
 
 -- ## Calls that may be skipped
--- how many of a call's numbers are descriptors: those that stand first
-abbrev pub descriptor_count : Call → ℕ
-descriptor_count calls.Sendfd = 2
-descriptor_count calls.Renameat = 2
-descriptor_count _ = 1
-
 -- whether nothing stands for one of so many numbers
-abbrev pub any_unnamed : List Naming → ProcessNumber → ℕ → List RealOperand → Bool
-any_unnamed namings p zero operands = false
-any_unnamed namings p (suc count) [] = false
-any_unnamed namings p (suc count) (Number n ∷ operands) = is_none (named namings p n) || any_unnamed namings p count operands
-any_unnamed namings p (suc count) (_ ∷ operands) = any_unnamed namings p (suc count) operands
+abbrev pub any_unnamed : List FdMapping → ProcessNumber → ℕ → List RealOperand → Bool
+any_unnamed mappings p zero operands = false
+any_unnamed mappings p (suc count) [] = false
+any_unnamed mappings p (suc count) (Number n ∷ operands) = is_none (named mappings p n) || any_unnamed mappings p count operands
+any_unnamed mappings p (suc count) (_ ∷ operands) = any_unnamed mappings p (suc count) operands
 
 -- a number that a skipped call has made stands for nothing
-abbrev pub lost_by : ProcessNumber → Call → ℕ → List Naming
-lost_by p calls.Open n = naming p n None ∷ []
-lost_by p calls.Openat n = naming p n None ∷ []
-lost_by p calls.Dup n = naming p n None ∷ []
-lost_by p calls.Recvfd n = naming p n None ∷ []
-lost_by p _ n = []
+abbrev pub lost_by : ProcessNumber → TableChange → ℕ → List FdMapping
+lost_by p Opened n = mapping p n None ∷ []
+lost_by p Inherited n = mapping p n None ∷ []
+lost_by p Copied n = mapping p n None ∷ []
+lost_by p Received n = mapping p n None ∷ []
+lost_by p Pair n = []
+lost_by p Freed n = []
+lost_by p Child n = []
+lost_by p Limited n = []
+lost_by p Unchanged n = []
 
-abbrev pub lost : ProcessNumber → MadeCall → RecordedOutcome → List Naming
-lost p made (Succeeds n) = lost_by p made.call n
+abbrev pub lost : ProcessNumber → MadeCall → RecordedOutcome → List FdMapping
+lost p made (Succeeds n) = lost_by p (facts_of made.call).table n
 lost p made (Fails errno) = []

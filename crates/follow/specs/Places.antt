@@ -4,8 +4,10 @@ use Rattle.std.specs.List.{list_any}
 use Rattle.std.specs.Str.{bytes_eq}
 use Rattle.rights.specs.Values.{PathText}
 use Rattle.file_tree.specs.Nodes.{Node, is_link}
-use Rattle.file_tree.specs.Places.{names_text, slash}
-use Rattle.instruction_set.specs.Programs.{Instruction, Invoke, Open, Stat, Mkdir, Unlink}
+use Rattle.file_tree.specs.Places.{ends_name, lies_at, names_text, slash}
+use Rattle.call_facts.specs.Arguments.{first_path}
+use Rattle.call_facts.specs.Facts.{Scope, Mode, Table, Object, Of_node, Root, Beneath, System, facts_of}
+use Rattle.instruction_set.specs.Programs.{Instruction, Invoke, Syscall, called}
 use Rattle.task.specs.Plans.{Grant, NamedProgram, Plan}
 
 -- REAL=MODEL: what lies at the first place of a record or beneath it lies, in the task, at the second or beneath it. A place is written
@@ -14,26 +16,23 @@ pub record Placing : Type 0 where
   pub real : PathText
   pub model : PathText
 
--- a name of a place ends where its text ends, or before a `/`
-abbrev pub ends_name : PathText → Bool
-ends_name [] = true
-ends_name (b ∷ text) = nat_eq b slash
-
--- whether a path is that of a place, or leads beneath it
-unfoldable pub lies_at : PathText → PathText → Bool
-lies_at place path = bytes_eq (take (length place) path) place && ends_name (drop (length place) path)
-
 -- what a path of the record is in the task, by the first of these at which it lies
 abbrev pub placed : List Placing → PathText → PathText
 placed [] path = path
 placed (p ∷ placings) path = if lies_at p.real path then p.model ++ drop (length p.real) path else placed placings path
 
 -- the path from the root that an instruction's call names
+abbrev pub path_from_root : Scope → Syscall → Option PathText
+path_from_root Root call = first_path call
+path_from_root Mode call = None
+path_from_root Table call = None
+path_from_root Object call = None
+path_from_root Of_node call = None
+path_from_root Beneath call = None
+path_from_root System call = None
+
 abbrev pub global_path : Instruction → Option PathText
-global_path (Invoke (Open path flags) otherwise) = Some path
-global_path (Invoke (Stat path) otherwise) = Some path
-global_path (Invoke (Mkdir path) otherwise) = Some path
-global_path (Invoke (Unlink path directory) otherwise) = Some path
+global_path (Invoke call otherwise) = path_from_root (facts_of (called call)).scope call
 global_path _ = None
 
 abbrev pub is_path_of : PathText → Option PathText → Bool

@@ -12,7 +12,7 @@ use Rattle.simulator.specs.Simulations.{IsRun}
 use Rattle.follow.specs.Places.{Placing}
 use Rattle.follow.specs.Numbers.{ProcessPair}
 use Rattle.follow.specs.Outcomes.{seen_at}
-use Rattle.follow.specs.Standings.{Setting, Standing, after_skip, after_step, first_standing, setting}
+use Rattle.follow.specs.Progress.{Setting, MatchProgress, after_skip, after_step, first_progress, setting}
 
 -- A step of the run, with the call that it shows, if it shows one; or a call that is skipped. A call is told by how many that are left stand before it.
 pub data Move : Type 0 where
@@ -24,7 +24,7 @@ pub record Witness : Type 0 where
   pub moves : List Move
 
 -- In every run of these moves from this world, whatever fresh numbers are chosen, it comes out so whether all is shown.
-abbrev pub Judged : Setting → World → Option Standing → List Move → Bool → Type 0
+abbrev pub Judged : Setting → World → Option MatchProgress → List Move → Bool → Type 0
 Judged g w None moves answer = answer ≡ false
 Judged g w (Some s) [] answer = answer ≡ nat_eq (length s.left) 0
 Judged g w (Some s) (Steps e shows ∷ moves) answer =
@@ -37,7 +37,7 @@ Judged g w (Some s) (Skips i ∷ moves) answer = Judged g w (after_skip g s w.pr
 
 abbrev pub Judges : Plan → List Placing → RecordedCalls → Witness → Bool → Type 0
 Judges plan placings calls witness answer =
-    Judged (setting plan placings witness.pairs calls) (first_world plan) (first_standing plan witness.pairs calls) witness.moves answer
+    Judged (setting plan placings witness.pairs calls) (first_world plan) (first_progress plan witness.pairs calls) witness.moves answer
 
 -- The moves of the witness are a run of the task that shows the calls of the record.
 abbrev pub Shows : Plan → List Placing → RecordedCalls → Witness → Type 0

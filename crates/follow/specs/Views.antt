@@ -9,11 +9,7 @@ use Rattle.simulator.specs.Views.{result_of}
 use Rattle.syscalls.specs.Views.{event_of}
 use Rattle.follow.specs.declared.places.Placing.{Placing as PlacingCode}
 use Rattle.follow.specs.declared.numbers.ProcessPair.{ProcessPair as ProcessPairCode}
-use Rattle.follow.specs.declared.numbers.Naming.{Naming as NamingCode}
-use Rattle.follow.specs.declared.given.Given.{Given as GivenCode}
-use Rattle.follow.specs.declared.given.Given.TheVariants as code
-use Rattle.follow.specs.declared.given.Rest.{Rest as RestCode}
-use Rattle.follow.specs.declared.given.Rest.TheVariants as rest
+use Rattle.follow.specs.declared.numbers.FdMapping.{FdMapping as FdMappingCode}
 use Rattle.follow.specs.declared.checking.Before.{Before as BeforeCode}
 use Rattle.follow.specs.declared.outcomes.Seen.{Seen as SeenCode}
 use Rattle.follow.specs.declared.transfers.Transfer.{Transfer as TransferCode}
@@ -22,14 +18,13 @@ use Rattle.follow.specs.declared.transfers.Past.{Past as PastCode}
 use Rattle.follow.specs.declared.witnesses.Move.{Move as MoveCode}
 use Rattle.follow.specs.declared.witnesses.Move.TheVariants as move
 use Rattle.follow.specs.declared.witnesses.Witness.{Witness as WitnessCode}
-use Rattle.follow.specs.declared.standing.Setting.{Setting as SettingCode}
-use Rattle.follow.specs.declared.standing.Standing.{Standing as StandingCode}
+use Rattle.follow.specs.declared.progress.Setting.{Setting as SettingCode}
+use Rattle.follow.specs.declared.progress.MatchProgress.{MatchProgress as MatchProgressCode}
 use Rattle.follow.specs.Places.{Placing}
-use Rattle.follow.specs.Numbers.{Naming, ProcessPair}
+use Rattle.follow.specs.Numbers.{FdMapping, ProcessPair}
 use Rattle.follow.specs.Outcomes.{Before, Past, Seen, Transfer, Reads, Writes}
-use Rattle.follow.specs.Standings.{Setting, Standing}
+use Rattle.follow.specs.Progress.{Setting, MatchProgress}
 use Rattle.follow.specs.Shows.{Move, Steps, Skips, Witness}
-use Rattle.follow.specs.Given.{Given, Descriptor, Amount, Status, Path, Flags, Rights, Commands, Directory}
 
 abbrev pub placing_of : PlacingCode → Placing
 placing_of p = record { real = p.real.items; model = p.model.items }
@@ -43,28 +38,11 @@ pair_of pair = record { real = pair.real; model = pair.model }
 abbrev pub pairs_of : List ProcessPairCode → List ProcessPair
 pairs_of pairs = map pair_of pairs
 
-abbrev pub naming_of : NamingCode → Naming
-naming_of n = record { process = n.process; real = n.real; model = n.model }
+abbrev pub mapping_of : FdMappingCode → FdMapping
+mapping_of n = record { process = n.process; real = n.real; model = n.model }
 
-abbrev pub namings_seen : List NamingCode → List Naming
-namings_seen namings = map naming_of namings
-
-abbrev pub given_of : GivenCode → Given
-given_of (code.Descriptor number) = Descriptor number
-given_of code.Amount = Amount
-given_of (code.Status flags) = Status flags
-given_of (code.Path path) = Path path.now
-given_of (code.Flags flags) = Flags flags
-given_of (code.Rights rights) = Rights rights.0
-given_of (code.Commands commands) = Commands commands.0
-given_of (code.Directory asked) = Directory asked
-
--- what a call is given beside its first descriptor
-abbrev pub rest_of : RestCode → List Given
-rest_of rest.Nothing = []
-rest_of (rest.One first) = given_of first ∷ []
-rest_of (rest.Two first second) = given_of first ∷ given_of second ∷ []
-rest_of (rest.Three first second third) = given_of first ∷ given_of second ∷ given_of third ∷ []
+abbrev pub mappings_seen : List FdMappingCode → List FdMapping
+mappings_seen mappings = map mapping_of mappings
 
 abbrev pub before_of : BeforeCode → Before
 before_of b = record { registers = b.registers; call = option_map (λ call. syscall_of call.now) b.call }
@@ -98,15 +76,15 @@ abbrev pub witness_of : WitnessCode → Witness
 witness_of witness = record { pairs = pairs_of witness.pairs.items; moves = moves_of witness.moves.items }
 
 -- entries behind references
-abbrev pub entries_behind : List (Bor EntryCode) → RecordedCalls
-entries_behind entries = map (λ entry. record_entry_seen entry.now) entries
+abbrev pub entries_after : List (Bor EntryCode) → RecordedCalls
+entries_after entries = map (λ entry. record_entry_seen entry.now) entries
 
 abbrev pub setting_of : SettingCode → Setting
 setting_of g = record { plan = g.task.now; placings = placings_of g.placings.now; pairs = pairs_of g.pairs.now; limited = g.limited }
 
-abbrev pub standing_of : StandingCode → Standing
-standing_of s = record { left = entries_behind s.left.items; namings = namings_seen s.namings.items; history = history_of s.history.items }
+abbrev pub progress_of : MatchProgressCode → MatchProgress
+progress_of s = record { left = entries_after s.left.items; mappings = mappings_seen s.mappings.items; history = history_of s.history.items }
 
 -- where it stands, if all was shown so far
-abbrev pub if_stands : Bool → StandingCode → Option Standing
-if_stands is s = if is then Some (standing_of s) else None
+abbrev pub if_stands : Bool → MatchProgressCode → Option MatchProgress
+if_stands is s = if is then Some (progress_of s) else None

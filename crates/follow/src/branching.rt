@@ -4,14 +4,15 @@ use crate::checking::code_of;
 use crate::given::{Names, call_fits};
 use crate::leads::{Lead, Leads, Search, Trial, event_of};
 use crate::numbers::model_of;
-use crate::outcomes::is_of_mode;
-use crate::standing::{next_entry, same_call};
+use crate::progress::{next_entry, same_call};
+use crate::transfers::passes_byte;
 use crate::worlds::{add_by_world, may_help};
+use call_facts::{Passed, first_operand, is_of_mode, passed_by, second_operand, value_operand};
 use instruction_set::{Instruction, Operand, Register, Syscall};
 use process::Process;
 use records::{Entry, Event as Recorded, MadeCall, Outcome};
+use rights::Errno;
 use rights::limits::MAX_DESCRIPTORS;
-use rights::{Call, Errno};
 use syscalls::Event;
 use texts::Page;
 
@@ -22,10 +23,11 @@ pub(crate) fn may_show(lead: &Lead<'_>, process: u8, call: &Syscall, made: &Made
     };
     let names = Names {
         placings: lead.search.placings,
-        namings: &lead.standing.namings,
+        mappings: &lead.progress.mappings,
         process: usize::from(process),
+        registers: &state.registers,
     };
-    same_call(made.call, call.call()) && call_fits(&names, &state.registers, call, &made.operands)
+    same_call(made.call, call.call()) && call_fits(&names, call, &made.operands)
 }
 
 /// Adds the run in which the call of a process shows this call, the entry of a place, also where the kernel refuses it, and where it
@@ -110,16 +112,16 @@ fn add_all(bytes: &mut Page, code: &[Instruction]) {
     }
 }
 
-/// Whether an instruction hands on what a register holds.
+/// Whether an instruction hands on what a register holds: to another one, or to who has the other end of a pair.
 fn hands_on(instruction: &Instruction, register: Register) -> bool {
     match instruction {
         Instruction::Mov { source, .. } => *source == register,
         Instruction::Add { addend, .. } => *addend == register,
-        Instruction::Invoke { call, .. } => match call {
-            Syscall::Write { value, .. } | Syscall::Sendfd { value, .. } => {
-                *value == Operand::Register(register)
+        Instruction::Invoke { call, .. } => match passed_by(call.call()) {
+            Passed::ByteOut | Passed::DescriptorOut => {
+                value_operand(call) == Some(Operand::Register(register))
             }
-            _ => false,
+            Passed::Nothing | Passed::ByteIn | Passed::DescriptorIn => false,
         },
         _ => false,
     }
@@ -134,7 +136,7 @@ fn is_handed_on(code: &[Instruction], register: Register) -> bool {
 /// Whether a call names a descriptor by what a register holds.
 fn names_descriptor(call: &Syscall, register: Register) -> bool {
     let own = Some(Operand::Register(register));
-    call.first_operand() == own || call.second_operand() == own
+    first_operand(call) == own || second_operand(call) == own
 }
 
 /// Adds the numbers that a descriptor may have, where some call of a program names one by what a register holds.
@@ -222,7 +224,7 @@ fn add_inputs<'a>(lead: &Lead<'a>, process: u8, found: &mut Leads<'a>) {
 fn add_repeated<'a>(lead: &Lead<'a>, process: u8, found: &mut Leads<'a>) {
     if let Some(call) = lead.call(process) {
         let call = call.call();
-        if is_of_mode(call) || matches!(call, Call::Read | Call::Write) {
+        if is_of_mode(call) || passes_byte(call) {
             let event = event_of(process, 0);
             found.add_tried(lead, Trial::Step { event, shows: None });
         }
@@ -240,7 +242,7 @@ enum Turn {
 
 /// Adds the runs of this turn that may come next at the entry of a place.
 fn add_at<'a>(lead: &Lead<'a>, turn: Turn, at: usize, found: &mut Leads<'a>) {
-    let Some(entry) = next_entry(&lead.standing.left, at) else {
+    let Some(entry) = next_entry(&lead.progress.left, at) else {
         return;
     };
     let Some(process) = model_of(&lead.pairs, entry.process) else {
@@ -288,7 +290,7 @@ pub(crate) fn add_unshown<'a>(lead: &Lead<'a>, found: &mut Leads<'a>) {
 
 /// Adds the runs that may come next, those that show a call first.
 pub(crate) fn add_branches<'a>(lead: &Lead<'a>, found: &mut Leads<'a>) {
-    let end = end_of_next(&lead.standing.left);
+    let end = end_of_next(&lead.progress.left);
     add_turn(lead, Turn::Shown, end, found);
     add_turn(lead, Turn::Bytes, end, found);
     add_turn(lead, Turn::Skipped, end, found);

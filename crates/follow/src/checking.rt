@@ -17,13 +17,13 @@ ghost use Rattle.simulator.specs.Steps.{StepsMachine};
 ghost use Rattle.simulator.specs.Views.{acted_of, line_of};
 ghost use Rattle.follow.specs.Moves.{Moves};
 ghost use Rattle.follow.specs.Outcomes.{before_at, second_in, seen_at, seen_by};
-ghost use Rattle.follow.specs.Standings.{first_standing};
+ghost use Rattle.follow.specs.Progress.{first_progress};
 ghost use Rattle.follow.specs.Shows.{HasRun, Judged, Judges, events_of};
-ghost use Rattle.follow.specs.Views.{before_of, if_stands, move_of, moves_of, pairs_of, placings_of, seen_of, setting_of, standing_of, witness_of};
+ghost use Rattle.follow.specs.Views.{before_of, if_stands, move_of, moves_of, pairs_of, placings_of, seen_of, setting_of, progress_of, witness_of};
 
 use crate::outcomes::Seen;
 use crate::places::Placing;
-use crate::standing::{Setting, Standing, after_skip, after_step, has_limiting};
+use crate::progress::{MatchProgress, Setting, after_skip, after_step, has_limiting};
 use crate::witnesses::{Move, Witness};
 use file_tree::Tree;
 use instruction_set::{Instruction, Syscall};
@@ -156,12 +156,12 @@ pub(crate) fn watched_step<'t, T: Tree>(
 fn make_move(
     alloc: Global,
     setting: &Setting<'_>,
-    standing: &mut Standing<'_>,
+    progress: &mut MatchProgress<'_>,
     machine: &mut Machine<'_, LinkTree>,
     step: Move,
 ) -> Result<bool, Stop>
     ensures moves { machine.old.plan ≡ setting.now.task.now → IfOk result (λ is. Moves (setting_of setting.now) (machine_world machine.old)
-        (standing_of standing.old) (move_of step) (machine_world machine.new) (if_stands is standing.new)) }
+        (progress_of progress.old) (move_of step) (machine_world machine.new) (if_stands is progress.new)) }
     ensures well_formed { IsWellFormed (programs_of_plan machine.old.plan) (machine_world machine.old)
         → OnOk result (IsWellFormed (programs_of_plan machine.new.plan) (machine_world machine.new)) }
     ensures plan { machine.new.plan ≡ machine.old.plan }
@@ -175,7 +175,7 @@ fn make_move(
             let is = after_step(
                 alloc,
                 setting,
-                standing,
+                progress,
                 process,
                 watched.seen.as_ref(),
                 shows,
@@ -183,7 +183,7 @@ fn make_move(
             Ok(is)
         }
         Move::Skip { entry } => {
-            let is = after_skip(alloc, setting, standing, machine.processes(), entry)?;
+            let is = after_skip(alloc, setting, progress, machine.processes(), entry)?;
             Ok(is)
         }
     }
@@ -193,7 +193,7 @@ fn make_move(
 fn make_moves(
     alloc: Global,
     setting: &Setting<'_>,
-    standing: &mut Standing<'_>,
+    progress: &mut MatchProgress<'_>,
     machine: &mut Machine<'_, LinkTree>,
     moves: &[Move],
 ) -> Result<bool, Stop>
@@ -202,31 +202,31 @@ fn make_moves(
     requires valid { is_plan setting.now.task.now ≡ true }
     requires well_formed { IsWellFormed (programs_of_plan setting.now.task.now) (machine_world machine.old) }
     requires world { DiffersInNumbers (first_world setting.now.task.now) (machine_world machine.old) }
-    ensures verdict { IfOk result (Judged (setting_of setting.now) (first_world setting.now.task.now) (Some (standing_of standing.old)) (moves_of moves.now)) }
+    ensures verdict { IfOk result (Judged (setting_of setting.now) (first_world setting.now.task.now) (Some (progress_of progress.old)) (moves_of moves.now)) }
     ensures run { IfOk result (λ is. is ≡ true → HasRun setting.now.task.now (events_of (moves_of moves.now))) }
     ensures memory { OnErr result (IsErrOf result Stop.Memory) }
 {
     for step in moves {
-        if !make_move(alloc, setting, standing, machine, *step)? {
+        if !make_move(alloc, setting, progress, machine, *step)? {
             return Ok(false);
         }
     }
-    Ok(standing.is_at_end())
+    Ok(progress.is_at_end())
 }
 
 /// Makes moves one after another from the beginning of the task. Whether they may be, and all is shown then, is told.
 fn make_all(
     alloc: Global,
     setting: &Setting<'_>,
-    standing: &mut Standing<'_>,
+    progress: &mut MatchProgress<'_>,
     moves: &[Move],
 ) -> Result<bool, Stop>
-    ensures verdict { IfOk result (Judged (setting_of setting.now) (first_world setting.now.task.now) (Some (standing_of standing.old)) (moves_of moves.now)) }
+    ensures verdict { IfOk result (Judged (setting_of setting.now) (first_world setting.now.task.now) (Some (progress_of progress.old)) (moves_of moves.now)) }
     ensures run { IfOk result (λ is. is ≡ true → HasRun setting.now.task.now (events_of (moves_of moves.now))) }
     ensures memory { OnErr result (IsErrOf result Stop.Memory) }
 {
     let mut machine: Machine<'_, LinkTree> = Machine::start(alloc, setting.task)?;
-    make_moves(alloc, setting, standing, &mut machine, moves)
+    make_moves(alloc, setting, progress, &mut machine, moves)
 }
 
 /// Whether moves are a run of the task that shows the calls of a record.
@@ -237,14 +237,15 @@ fn shows_by(
     moves: &[Move],
 ) -> Result<bool, Stop>
     ensures verdict { IfOk result (Judged (setting_of setting.now) (first_world setting.now.task.now)
-        (first_standing setting.now.task.now (pairs_of setting.now.pairs.now) (calls_seen entries.now)) (moves_of moves.now)) }
+        (first_progress setting.now.task.now (pairs_of setting.now.pairs.now) (calls_seen entries.now)) (moves_of moves.now)) }
     ensures run { IfOk result (λ is. is ≡ true → HasRun setting.now.task.now (events_of (moves_of moves.now))) }
     ensures memory { OnErr result (IsErrOf result Stop.Memory) }
 {
-    let Some(mut standing) = Standing::first(alloc, setting.task, setting.pairs, entries)? else {
+    let Some(mut progress) = MatchProgress::first(alloc, setting.task, setting.pairs, entries)?
+    else {
         return Ok(false);
     };
-    make_all(alloc, setting, &mut standing, moves)
+    make_all(alloc, setting, &mut progress, moves)
 }
 
 /// Whether the moves of a witness are a run of the task that shows the calls of a record. Where they are, the task has a run of their

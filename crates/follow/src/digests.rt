@@ -2,8 +2,9 @@
 
 use crate::leads::Lead;
 use bitflags::Flags;
+use call_facts::{NameChange, first_path, looks_at, name_change, opening_flags, second_path};
 use fd_table::{Description, Descriptor, End, Files, Message, Object};
-use instruction_set::{Instruction, Path, Register, Syscall};
+use instruction_set::{Instruction, Register, Syscall};
 use process::Process;
 use records::Entry;
 use rights::Memory;
@@ -27,7 +28,7 @@ fn is_kept(code: &[Instruction], register: Register) -> bool {
                 }
             }
             _ => {
-                if instruction.looks_at(register) {
+                if looks_at(instruction, register) {
                     return true;
                 }
                 is_new = false;
@@ -68,27 +69,33 @@ impl KeptRegisters {
     }
 }
 
-/// A number for a name, by a path to it.
-fn mark_of(path: &Path) -> u64 {
+/// A number for a name, by a path to it; for none, nothing.
+fn mark_of(path: Option<&[u8]>) -> u64 {
+    let Some(path) = path else {
+        return 0;
+    };
     let mut mark: u64 = 0xCBF2_9CE4_8422_2325;
-    for byte in path.bytes() {
+    for byte in path {
         mark = (mark ^ u64::from(*byte)).wrapping_mul(0x0000_0100_0000_01B3);
     }
     mark
 }
 
+/// Whether a call may make, move or remove names.
+fn changes_names(call: &Syscall) -> bool {
+    match name_change(call.call()) {
+        NameChange::Stays => false,
+        NameChange::Created => opening_flags(call).is_some_and(|flags| flags.create()),
+        NameChange::Made | NameChange::Removed | NameChange::Moved => true,
+    }
+}
+
 /// A number for the names that a call makes or removes where it succeeds, by its paths. Of two such calls for one name it comes to nothing.
 pub(crate) fn names_changed(call: &Syscall) -> u64 {
-    match call {
-        Syscall::Open { path, flags } | Syscall::Openat { path, flags, .. } if flags.create() => {
-            mark_of(path)
-        }
-        Syscall::Mkdir { path }
-        | Syscall::Mkdirat { path, .. }
-        | Syscall::Unlink { path, .. }
-        | Syscall::Unlinkat { path, .. } => mark_of(path),
-        Syscall::Renameat { path, new_path, .. } => mark_of(path) ^ mark_of(new_path),
-        _ => 0,
+    if changes_names(call) {
+        mark_of(first_path(call)) ^ mark_of(second_path(call))
+    } else {
+        0
     }
 }
 
@@ -182,7 +189,7 @@ pub(crate) fn digest_of(lead: &Lead<'_>) -> u128 {
         first: 0x243F_6A88_85A3_08D3,
         second: 0x1319_8A2E_0370_7344,
     };
-    digest.add_left(&lead.standing.left);
+    digest.add_left(&lead.progress.left);
     digest.add(lead.names);
     for (number, process) in lead.machine.processes().iter().enumerate() {
         if number >= MAX_PROCESSES {

@@ -2,23 +2,24 @@
 
 ghost use Rattle.std.specs.Prelude.{◌≡◌, ◌++◌, ◌∷◌, [], IfOk, OnOk, map, nat_eq, length};
 ghost use Rattle.std.specs.List.{list_any};
-ghost use Rattle.rights.specs.Views.{call_of};
+ghost use Rattle.call_facts.specs.FactViews.{table_seen};
 ghost use Rattle.records.specs.EntryViews.{calls_seen, event_seen, made_seen, outcome_seen, record_entry_seen};
 ghost use Rattle.records.specs.OperandViews.{operand_seen};
 ghost use Rattle.follow.specs.Excused.{after_move, any_excused, are_excused, counted_in, first_tally, if_excused, if_made, is_past, is_within, numbers_by, numbers_of, only_if};
 ghost use Rattle.follow.specs.Excused.{shown_in, skipped_in, tallied};
 ghost use Rattle.follow.specs.TallyViews.{tally_of};
-ghost use Rattle.follow.specs.Views.{entries_behind, move_of, moves_of, namings_seen, placings_of};
+ghost use Rattle.follow.specs.Views.{entries_after, move_of, moves_of, mappings_seen, placings_of};
 
-use crate::numbers::{Naming, add_child, named};
-use crate::outcomes::{add, add_freed, descriptor_count, second_end};
+use crate::numbers::{FdMapping, add_child, named};
+use crate::outcomes::{add, add_freed, second_end};
 use crate::places::{Placing, in_task};
-use crate::standing::{counted, take_out};
+use crate::progress::{counted, take_out};
 use crate::witnesses::Move;
+use call_facts::{TableChange, descriptor_count, table_change};
 use file_tree::is_valid_target;
 use instruction_set::is_valid_path;
 use records::{Entry, Event, MadeCall, Operand, Outcome};
-use rights::{Call, Memory};
+use rights::Memory;
 use std::alloc::Global;
 
 /// What moves have made of a record.
@@ -26,7 +27,7 @@ use std::alloc::Global;
 pub struct Tally<'c> {
     /// The calls and ends that are left, and the numbers that excused calls made: such a number stands for itself, and any other for none.
     left: Vec<&'c Entry>,
-    numbers: Vec<Naming>,
+    numbers: Vec<FdMapping>,
     /// The calls that were shown, and those that were skipped.
     pub shown: Vec<&'c Entry>,
     pub skipped: Vec<&'c Entry>,
@@ -69,8 +70,8 @@ fn any_past(alloc: Global, placings: &[Placing], operands: &[Operand]) -> Result
 }
 
 /// Whether one of so many numbers, those that stand first, was made by an excused call.
-fn any_excused(numbers: &[Naming], process: usize, count: usize, operands: &[Operand]) -> bool
-    ensures { result ≡ any_excused (namings_seen numbers.now) process count (map operand_seen operands.now) }
+fn any_excused(numbers: &[FdMapping], process: usize, count: usize, operands: &[Operand]) -> bool
+    ensures { result ≡ any_excused (mappings_seen numbers.now) process count (map operand_seen operands.now) }
 {
     if count == 0 {
         return false;
@@ -94,12 +95,12 @@ fn if_excused(is_excused: bool, number: u32) -> Option<u32>
 
 /// Adds what is kept of a number that a call made, if there is one.
 fn add_if_made(
-    numbers: &mut Vec<Naming>,
+    numbers: &mut Vec<FdMapping>,
     process: usize,
     number: Option<u32>,
     is_excused: bool,
 ) -> Result<(), Memory>
-    ensures { OnOk result (namings_seen numbers.new.items ≡ namings_seen numbers.old.items ++ if_made process number is_excused) }
+    ensures { OnOk result (mappings_seen numbers.new.items ≡ mappings_seen numbers.old.items ++ if_made process number is_excused) }
 {
     match number {
         None => Ok(()),
@@ -110,49 +111,54 @@ fn add_if_made(
 /// Adds what a call makes or frees that came to this number.
 fn add_by(
     alloc: Global,
-    numbers: &mut Vec<Naming>,
+    numbers: &mut Vec<FdMapping>,
     process: usize,
     made: &MadeCall,
+    change: TableChange,
     number: u32,
     is_excused: bool,
 ) -> Result<(), Memory>
-    ensures { OnOk result (namings_seen numbers.new.items ≡ namings_seen numbers.old.items
-        ++ numbers_by (namings_seen numbers.old.items) process (made_seen made.now) (call_of made.now.call) number is_excused) }
+    ensures { OnOk result (mappings_seen numbers.new.items ≡ mappings_seen numbers.old.items
+        ++ numbers_by (mappings_seen numbers.old.items) process (made_seen made.now) (table_seen change) number is_excused) }
 {
-    match made.call {
-        Call::Open | Call::Openat | Call::Dup | Call::Recvfd => {
-            add_if_made(numbers, process, Some(number), is_excused)
-        }
-        Call::Socketpair => {
+    match change {
+        TableChange::Opened
+        | TableChange::Inherited
+        | TableChange::Copied
+        | TableChange::Received => add_if_made(numbers, process, Some(number), is_excused),
+        TableChange::Pair => {
             add_if_made(numbers, process, Some(number), is_excused)?;
             add_if_made(numbers, process, second_end(&made.bindings), is_excused)
         }
-        Call::Close => add_freed(numbers, process, &made.operands),
-        Call::Fork => add_child(alloc, numbers, process, number as usize),
-        _ => Ok(()),
+        TableChange::Freed => add_freed(numbers, process, &made.operands),
+        TableChange::Child => add_child(alloc, numbers, process, number as usize),
+        TableChange::Limited | TableChange::Unchanged => Ok(()),
     }
 }
 
 /// Adds what a call makes or frees.
 fn add_numbers(
     alloc: Global,
-    numbers: &mut Vec<Naming>,
+    numbers: &mut Vec<FdMapping>,
     process: usize,
     made: &MadeCall,
     is_excused: bool,
 ) -> Result<(), Memory>
-    ensures { OnOk result (namings_seen numbers.new.items ≡ namings_seen numbers.old.items
-        ++ numbers_of (namings_seen numbers.old.items) process (made_seen made.now) (outcome_seen made.now.outcome) is_excused) }
+    ensures { OnOk result (mappings_seen numbers.new.items ≡ mappings_seen numbers.old.items
+        ++ numbers_of (mappings_seen numbers.old.items) process (made_seen made.now) (outcome_seen made.now.outcome) is_excused) }
 {
     match made.outcome {
-        Outcome::Success(number) => add_by(alloc, numbers, process, made, number, is_excused),
+        Outcome::Success(number) => {
+            let change = table_change(made.call);
+            add_by(alloc, numbers, process, made, change, number, is_excused)
+        }
         Outcome::Failure(_) => Ok(()),
     }
 }
 
 /// Adds an entry to some, if it is one of them.
 fn add_only_if<'c>(entries: &mut Vec<&'c Entry>, is: bool, entry: &'c Entry) -> Result<(), Memory>
-    ensures { OnOk result (entries_behind entries.new.items ≡ entries_behind entries.old.items ++ only_if is (record_entry_seen entry.now)) }
+    ensures { OnOk result (entries_after entries.new.items ≡ entries_after entries.old.items ++ only_if is (record_entry_seen entry.now)) }
 {
     if is {
         entries.push(entry)?;
@@ -162,7 +168,7 @@ fn add_only_if<'c>(entries: &mut Vec<&'c Entry>, is: bool, entry: &'c Entry) -> 
 
 /// Adds an entry to some.
 fn add_entry<'c>(entries: &mut Vec<&'c Entry>, entry: &'c Entry) -> Result<(), Memory>
-    ensures { OnOk result (entries_behind entries.new.items ≡ entries_behind entries.old.items ++ record_entry_seen entry.now ∷ []) }
+    ensures { OnOk result (entries_after entries.new.items ≡ entries_after entries.old.items ++ record_entry_seen entry.now ∷ []) }
 {
     entries.push(entry)?;
     Ok(())

@@ -12,7 +12,7 @@ use crate::digests::{KeptRegisters, digest_of};
 use crate::leads::{Lead, Leads, Search};
 use crate::numbers::{ProcessPair, model_of};
 use crate::places::Placing;
-use crate::standing::{Standing, has_limiting};
+use crate::progress::{MatchProgress, has_limiting};
 use crate::witnesses::Witness;
 use indexmap::IndexSet;
 use records::{Entry, first_processes};
@@ -110,7 +110,7 @@ fn first_pairs(alloc: Global, task: &Task, entries: &[Entry]) -> Result<Vec<Proc
 impl<'a> Trail<'a> {
     /// Notes how far a run has come, if none has come further.
     fn reach(&mut self, lead: &Lead<'a>) {
-        let left = &lead.standing.left;
+        let left = &lead.progress.left;
         if left.len() < self.fewest || self.first_left.is_none() {
             self.points.clear();
             self.fewest = left.len();
@@ -137,7 +137,7 @@ impl<'a> Trail<'a> {
 
     /// Notes where the process of the next entry stands, if no run has come further.
     fn note_end(&mut self, lead: &Lead<'a>) {
-        let left = &lead.standing.left;
+        let left = &lead.progress.left;
         if left.len() > self.fewest || self.points.len() >= MOST_POINTS {
             return;
         }
@@ -190,7 +190,7 @@ impl<'a> Trail<'a> {
         if lead.is_short {
             self.leads.is_short = true;
         }
-        if lead.standing.is_at_end() {
+        if lead.progress.is_at_end() {
             mem::swap(&mut self.way.pairs, &mut lead.pairs);
             return true;
         }
@@ -224,15 +224,15 @@ impl<'a> Trail<'a> {
     /// Begins with the run that has no moves, unless some process of it stands for two, or two for one.
     fn begin(&mut self, search: &Search<'a>, entries: &'a [Entry]) -> Result<(), Memory> {
         let pairs = first_pairs(search.alloc, search.task, entries)?;
-        if let Some(standing) = Standing::first(search.alloc, search.task, &pairs, entries)? {
-            self.leads.begin(search, standing, pairs);
+        if let Some(progress) = MatchProgress::first(search.alloc, search.task, &pairs, entries)? {
+            self.leads.begin(search, progress, pairs);
         }
         Ok(())
     }
 }
 
 /// The place of an entry in a record.
-fn place_of(entries: &[Entry], sought: Option<&Entry>) -> usize {
+fn index_of(entries: &[Entry], sought: Option<&Entry>) -> usize {
     let Some(sought) = sought else {
         return 0;
     };
@@ -272,7 +272,7 @@ fn judged(
 /// How far a search has come that found nothing.
 fn parted_of<'a>(trail: &mut Trail<'a>, search: &Search<'a>, entries: &'a [Entry]) -> Parted {
     Parted {
-        entry: place_of(entries, trail.first_left),
+        entry: index_of(entries, trail.first_left),
         points: mem::replace(&mut trail.points, Vec::new(search.alloc)),
         states: trail.met.len(),
         is_bounded: !trail.leads.runs.is_empty(),

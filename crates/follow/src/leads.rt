@@ -5,14 +5,15 @@ use crate::digests::{KeptRegisters, names_changed};
 use crate::numbers::{ProcessPair, model_of};
 use crate::outcomes::Seen;
 use crate::places::Placing;
-use crate::standing::{Setting, Standing, after_skip, after_step};
+use crate::progress::{MatchProgress, Setting, after_skip, after_step};
 use crate::streams::{Sent, end_written};
 use crate::witnesses::Move;
+use call_facts::{TableChange, table_change};
 use instruction_set::{Instruction, Syscall};
 use process::Process;
 use records::{Entry, Event as Recorded, Outcome};
+use rights::Memory;
 use rights::limits::MAX_PROCESSES;
-use rights::{Call, Memory};
 use shared_tree::SharedTree;
 use simulator::{LineResult, Machine};
 use std::alloc::Global;
@@ -46,7 +47,7 @@ pub(crate) struct Search<'a> {
 pub(crate) struct Lead<'a> {
     pub search: Search<'a>,
     pub machine: Machine<'a, SharedTree>,
-    pub standing: Standing<'a>,
+    pub progress: MatchProgress<'a>,
     pub pairs: Vec<ProcessPair>,
     /// Through which ends of the record's its processes have written last.
     pub sent: Vec<Sent>,
@@ -100,8 +101,8 @@ impl<'a> Search<'a> {
 fn child_at(left: &[&Entry], at: Option<usize>) -> Option<u32> {
     let entry = left.get(at?)?;
     match &entry.event {
-        Recorded::Called(made) => match (made.call, made.outcome) {
-            (Call::Fork, Outcome::Success(child)) => Some(child),
+        Recorded::Called(made) => match (table_change(made.call), made.outcome) {
+            (TableChange::Child, Outcome::Success(child)) => Some(child),
             _ => None,
         },
         _ => None,
@@ -132,14 +133,14 @@ impl<'a> Leads<'a> {
     pub(crate) fn begin(
         &mut self,
         search: &Search<'a>,
-        standing: Standing<'a>,
+        progress: MatchProgress<'a>,
         pairs: Vec<ProcessPair>,
     ) {
         match Machine::<'_, SharedTree>::start(search.alloc, search.task) {
             Ok(machine) => self.push(Lead {
                 search: *search,
                 machine,
-                standing,
+                progress,
                 pairs,
                 sent: Vec::new(search.alloc),
                 names: 0,
@@ -253,15 +254,15 @@ impl<'a> Lead<'a> {
         let alloc = self.search.alloc;
         let machine = self.machine.copy()?;
         let mut is_short = false;
-        let standing = Standing {
-            left: copied(alloc, &self.standing.left, &mut is_short),
-            namings: copied(alloc, &self.standing.namings, &mut is_short),
-            history: copied(alloc, &self.standing.history, &mut is_short),
+        let progress = MatchProgress {
+            left: copied(alloc, &self.progress.left, &mut is_short),
+            mappings: copied(alloc, &self.progress.mappings, &mut is_short),
+            history: copied(alloc, &self.progress.history, &mut is_short),
         };
         Ok(Lead {
             search: self.search,
             machine,
-            standing,
+            progress,
             pairs: copied(alloc, &self.pairs, &mut is_short),
             sent: copied(alloc, &self.sent, &mut is_short),
             names: self.names,
@@ -336,7 +337,7 @@ impl<'a> Lead<'a> {
 
     /// Notes through which end a process sends, if the entry of a place that it shows is a write through one.
     fn note_sent(&mut self, process: u8, shows: Option<usize>) {
-        let Some(end) = end_written(&self.standing.left, shows) else {
+        let Some(end) = end_written(&self.progress.left, shows) else {
             return;
         };
         for own in self.sent.iter_mut() {
@@ -363,7 +364,7 @@ impl<'a> Lead<'a> {
         let may = after_step(
             self.search.alloc,
             &self.search.setting(&self.pairs),
-            &mut self.standing,
+            &mut self.progress,
             usize::from(event.process),
             Some(&seen),
             shows,
@@ -391,7 +392,7 @@ impl<'a> Lead<'a> {
 
     /// Notes that the next process that is made stands for the one that the entry of a place has made, if it has made one and none does.
     fn pair_next(&mut self, shows: Option<usize>) {
-        let Some(real) = child_at(&self.standing.left, shows) else {
+        let Some(real) = child_at(&self.progress.left, shows) else {
             return;
         };
         // There are 16 processes at most.
@@ -407,7 +408,7 @@ impl<'a> Lead<'a> {
         let may = after_skip(
             self.search.alloc,
             &self.search.setting(&self.pairs),
-            &mut self.standing,
+            &mut self.progress,
             self.machine.processes(),
             entry,
         );

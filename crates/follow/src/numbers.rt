@@ -3,8 +3,8 @@
 ghost use Rattle.std.specs.Prelude.{◌≡◌, ◌++◌, ◌∷◌, [], IfOk, OnOk, Some, map};
 ghost use Rattle.std.specs.List.{list_all};
 ghost use Rattle.task.specs.Views.{starts_of};
-ghost use Rattle.follow.specs.Numbers.{are_apart, child_namings, first_namings, given_namings, is_injection, is_number, is_of, is_recorded, model_of, named, naming};
-ghost use Rattle.follow.specs.Views.{naming_of, namings_seen, pair_of, pairs_of};
+ghost use Rattle.follow.specs.Numbers.{are_apart, child_mappings, first_mappings, given_mappings, is_injection, is_number, is_of, is_recorded, model_of, named, mapping};
+ghost use Rattle.follow.specs.Views.{mapping_of, mappings_seen, pair_of, pairs_of};
 ghost use Rattle.task.specs.Views.{first_descriptor_of};
 
 use rights::Memory;
@@ -20,7 +20,7 @@ pub struct ProcessPair {
 
 /// From here on this number of a process of the task stands for a number of the recorded process, or none does.
 #[derive(Clone, Copy)]
-pub(crate) struct Naming {
+pub(crate) struct FdMapping {
     pub process: usize,
     pub real: u32,
     pub model: Option<u32>,
@@ -85,13 +85,13 @@ pub(crate) fn is_injection(pairs: &[ProcessPair]) -> bool
 }
 
 /// What stands for a number of a recorded process, if anything does.
-pub(crate) fn named(namings: &[Naming], process: usize, real: u32) -> Option<u32>
-    ensures { result ≡ named (namings_seen namings.now) process real }
+pub(crate) fn named(mappings: &[FdMapping], process: usize, real: u32) -> Option<u32>
+    ensures { result ≡ named (mappings_seen mappings.now) process real }
 {
     let mut model = None;
-    for naming in namings {
-        if naming.process == process && naming.real == real {
-            model = naming.model;
+    for mapping in mappings {
+        if mapping.process == process && mapping.real == real {
+            model = mapping.model;
         }
     }
     model
@@ -108,11 +108,11 @@ pub(crate) fn is_number(number: Option<u32>, other: u32) -> bool
 }
 
 /// A first descriptor of a process stands for that of the same number.
-fn given_naming(process: usize, given: &FirstDescriptor) -> Naming
-    ensures { naming_of result ≡ naming process (first_descriptor_of given.now).number (Some (first_descriptor_of given.now).number) }
+fn given_mapping(process: usize, given: &FirstDescriptor) -> FdMapping
+    ensures { mapping_of result ≡ mapping process (first_descriptor_of given.now).number (Some (first_descriptor_of given.now).number) }
 {
     let number = u32::from(given.number);
-    Naming {
+    FdMapping {
         process,
         real: number,
         model: Some(number),
@@ -121,44 +121,44 @@ fn given_naming(process: usize, given: &FirstDescriptor) -> Naming
 
 /// Adds that first descriptors of a process stand for those of the same numbers.
 fn add_given(
-    namings: &mut Vec<Naming>,
+    mappings: &mut Vec<FdMapping>,
     process: usize,
     descriptors: &[FirstDescriptor],
 ) -> Result<(), Memory>
-    ensures { OnOk result (namings_seen namings.new.items ≡ namings_seen namings.old.items ++ given_namings process (map first_descriptor_of descriptors.now)) }
+    ensures { OnOk result (mappings_seen mappings.new.items ≡ mappings_seen mappings.old.items ++ given_mappings process (map first_descriptor_of descriptors.now)) }
 {
     for given in descriptors {
-        let naming = given_naming(process, given);
-        namings.push(naming)?;
+        let mapping = given_mapping(process, given);
+        mappings.push(mapping)?;
     }
     Ok(())
 }
 
 /// Adds that the first descriptors of all processes stand for those of the same numbers.
-pub(crate) fn add_first(namings: &mut Vec<Naming>, starts: &[Start]) -> Result<(), Memory>
-    ensures { OnOk result (namings_seen namings.new.items ≡ namings_seen namings.old.items ++ first_namings 0 (starts_of starts.now)) }
+pub(crate) fn add_first(mappings: &mut Vec<FdMapping>, starts: &[Start]) -> Result<(), Memory>
+    ensures { OnOk result (mappings_seen mappings.new.items ≡ mappings_seen mappings.old.items ++ first_mappings 0 (starts_of starts.now)) }
 {
     for (process, start) in starts.iter().enumerate() {
-        add_given(namings, process, &start.descriptors)?;
+        add_given(mappings, process, &start.descriptors)?;
     }
     Ok(())
 }
 
 /// The numbers of a parent, as those of its child.
-fn child_namings(
+fn child_mappings(
     alloc: Global,
-    namings: &[Naming],
+    mappings: &[FdMapping],
     parent: usize,
     child: usize,
-) -> Result<Vec<Naming>, Memory>
-    ensures { IfOk result (λ added. namings_seen added.items ≡ child_namings (namings_seen namings.now) parent child) }
+) -> Result<Vec<FdMapping>, Memory>
+    ensures { IfOk result (λ added. mappings_seen added.items ≡ child_mappings (mappings_seen mappings.now) parent child) }
 {
     let mut added = Vec::new(alloc);
-    for naming in namings {
-        if naming.process == parent {
-            added.push(Naming {
+    for mapping in mappings {
+        if mapping.process == parent {
+            added.push(FdMapping {
                 process: child,
-                ..*naming
+                ..*mapping
             })?;
         }
     }
@@ -168,14 +168,14 @@ fn child_namings(
 /// Adds that a child has the numbers of its parent.
 pub(crate) fn add_child(
     alloc: Global,
-    namings: &mut Vec<Naming>,
+    mappings: &mut Vec<FdMapping>,
     parent: usize,
     child: usize,
 ) -> Result<(), Memory>
-    ensures { OnOk result (namings_seen namings.new.items
-        ≡ namings_seen namings.old.items ++ child_namings (namings_seen namings.old.items) parent child) }
+    ensures { OnOk result (mappings_seen mappings.new.items
+        ≡ mappings_seen mappings.old.items ++ child_mappings (mappings_seen mappings.old.items) parent child) }
 {
-    let added = child_namings(alloc, namings, parent, child)?;
-    namings.extend_from_slice(&added)?;
+    let added = child_mappings(alloc, mappings, parent, child)?;
+    mappings.extend_from_slice(&added)?;
     Ok(())
 }

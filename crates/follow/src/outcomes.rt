@@ -6,13 +6,15 @@ ghost use Rattle.instruction_set.specs.Views.{syscall_of};
 ghost use Rattle.records.specs.EntryViews.{binding_seen, made_seen, outcome_seen};
 ghost use Rattle.records.specs.OperandViews.{operand_seen};
 ghost use Rattle.simulator.specs.Views.{result_of};
-ghost use Rattle.follow.specs.Numbers.{naming};
-ghost use Rattle.follow.specs.Outcomes.{any_unnamed, descriptor_count, freed, if_there, is_call_of_mode, is_of_mode, is_silent, is_silent_by, is_silent_call};
-ghost use Rattle.follow.specs.Outcomes.{lost, lost_by, namings_by, namings_of, same_answer, same_outcome, second_end};
-ghost use Rattle.follow.specs.Views.{history_of, namings_seen, pairs_of, seen_of};
+ghost use Rattle.follow.specs.Numbers.{mapping};
+ghost use Rattle.call_facts.specs.FactViews.{answer_seen, table_seen};
+ghost use Rattle.follow.specs.Outcomes.{any_unnamed, freed, if_there, is_call_of_mode, is_silent, is_silent_by, is_silent_call};
+ghost use Rattle.follow.specs.Outcomes.{lost, lost_by, mappings_by, mappings_of, same_answer, same_outcome, second_end};
+ghost use Rattle.follow.specs.Views.{history_of, mappings_seen, pairs_of, seen_of};
 
-use crate::numbers::{Naming, ProcessPair, add_child, is_process, named};
+use crate::numbers::{FdMapping, ProcessPair, add_child, is_process, named};
 use crate::transfers::{Past, is_repeat, transfer_in};
+use call_facts::{Answer, TableChange, answer_of, is_of_mode, table_change};
 use instruction_set::Syscall;
 use records::{Binding, MadeCall, Operand, Outcome};
 use rights::limits::REGISTERS;
@@ -31,13 +33,14 @@ pub(crate) struct Seen<'t> {
 }
 
 /// Whether a number in the record and one in the task are the same answer of a call.
-fn same_answer(pairs: &[ProcessPair], call: Call, number: u32, own: u32) -> bool
-    ensures { result ≡ same_answer (pairs_of pairs.now) (call_of call) number own }
+fn same_answer(pairs: &[ProcessPair], answer: Answer, number: u32, own: u32) -> bool
+    ensures { result ≡ same_answer (pairs_of pairs.now) (answer_seen answer) number own }
 {
-    match call {
-        Call::Read => (number == 0) == (own == 256),
-        Call::Fork => is_process(pairs, number, own as usize),
-        _ => true,
+    match answer {
+        Answer::Byte => (number == 0) == (own == 256),
+        Answer::Process => is_process(pairs, number, own as usize),
+        Answer::Zero | Answer::One | Answer::Offset | Answer::Kind => true,
+        Answer::StatusFlags | Answer::ModeBit | Answer::Number => true,
     }
 }
 
@@ -52,7 +55,7 @@ pub(crate) fn same_outcome(
 {
     match outcome {
         Outcome::Success(number) => match own {
-            LineResult::Value(value) => same_answer(pairs, call, number, value),
+            LineResult::Value(value) => same_answer(pairs, answer_of(call), number, value),
             _ => false,
         },
         Outcome::Failure(errno) => match own {
@@ -85,14 +88,14 @@ pub(crate) fn second_end(bindings: &[Binding]) -> Option<u32>
 
 /// Adds what stands for a number from here on.
 pub(crate) fn add(
-    namings: &mut Vec<Naming>,
+    mappings: &mut Vec<FdMapping>,
     process: usize,
     real: u32,
     model: Option<u32>,
 ) -> Result<(), Memory>
-    ensures { OnOk result (namings_seen namings.new.items ≡ namings_seen namings.old.items ++ naming process real model ∷ []) }
+    ensures { OnOk result (mappings_seen mappings.new.items ≡ mappings_seen mappings.old.items ++ mapping process real model ∷ []) }
 {
-    namings.push(Naming {
+    mappings.push(FdMapping {
         process,
         real,
         model,
@@ -102,29 +105,29 @@ pub(crate) fn add(
 
 /// Adds what stands for a number from here on, if there is one.
 fn add_if_there(
-    namings: &mut Vec<Naming>,
+    mappings: &mut Vec<FdMapping>,
     process: usize,
     real: Option<u32>,
     model: u32,
 ) -> Result<(), Memory>
-    ensures { OnOk result (namings_seen namings.new.items ≡ namings_seen namings.old.items ++ if_there process real model) }
+    ensures { OnOk result (mappings_seen mappings.new.items ≡ mappings_seen mappings.old.items ++ if_there process real model) }
 {
     match real {
         None => Ok(()),
-        Some(real) => add(namings, process, real, Some(model)),
+        Some(real) => add(mappings, process, real, Some(model)),
     }
 }
 
 /// Adds that nothing stands for the first number that a call was given.
 pub(crate) fn add_freed(
-    namings: &mut Vec<Naming>,
+    mappings: &mut Vec<FdMapping>,
     process: usize,
     operands: &[Operand],
 ) -> Result<(), Memory>
-    ensures { OnOk result (namings_seen namings.new.items ≡ namings_seen namings.old.items ++ freed process (map operand_seen operands.now)) }
+    ensures { OnOk result (mappings_seen mappings.new.items ≡ mappings_seen mappings.old.items ++ freed process (map operand_seen operands.now)) }
 {
     match operands {
-        [Operand::Number(number), ..] => add(namings, process, *number, None),
+        [Operand::Number(number), ..] => add(mappings, process, *number, None),
         _ => Ok(()),
     }
 }
@@ -132,45 +135,57 @@ pub(crate) fn add_freed(
 /// Adds what a success makes or frees, with these numbers in the record and in the task.
 fn add_by(
     alloc: Global,
-    namings: &mut Vec<Naming>,
+    mappings: &mut Vec<FdMapping>,
     process: usize,
     made: &MadeCall,
+    change: TableChange,
     number: u32,
     own: u32,
     second: u32,
 ) -> Result<(), Memory>
-    ensures { OnOk result (namings_seen namings.new.items ≡ namings_seen namings.old.items
-        ++ namings_by (namings_seen namings.old.items) process (made_seen made.now) (call_of made.now.call) number own second) }
+    ensures { OnOk result (mappings_seen mappings.new.items ≡ mappings_seen mappings.old.items
+        ++ mappings_by (mappings_seen mappings.old.items) process (made_seen made.now) (table_seen change) number own second) }
 {
-    match made.call {
-        Call::Open | Call::Openat | Call::Dup | Call::Recvfd => {
-            add(namings, process, number, Some(own))
+    match change {
+        TableChange::Opened
+        | TableChange::Inherited
+        | TableChange::Copied
+        | TableChange::Received => add(mappings, process, number, Some(own)),
+        TableChange::Pair => {
+            add(mappings, process, number, Some(own))?;
+            add_if_there(mappings, process, second_end(&made.bindings), second)
         }
-        Call::Socketpair => {
-            add(namings, process, number, Some(own))?;
-            add_if_there(namings, process, second_end(&made.bindings), second)
-        }
-        Call::Close => add_freed(namings, process, &made.operands),
-        Call::Fork => add_child(alloc, namings, process, own as usize),
-        _ => Ok(()),
+        TableChange::Freed => add_freed(mappings, process, &made.operands),
+        TableChange::Child => add_child(alloc, mappings, process, own as usize),
+        TableChange::Limited | TableChange::Unchanged => Ok(()),
     }
 }
 
 /// Adds what a call makes or frees that was shown by a step.
 pub(crate) fn add_made(
     alloc: Global,
-    namings: &mut Vec<Naming>,
+    mappings: &mut Vec<FdMapping>,
     process: usize,
     made: &MadeCall,
     seen: &Seen<'_>,
 ) -> Result<(), Memory>
-    ensures { OnOk result (namings_seen namings.new.items ≡ namings_seen namings.old.items
-        ++ namings_of (namings_seen namings.old.items) process (made_seen made.now) (outcome_seen made.now.outcome) (result_of seen.now.outcome) seen.now.second) }
+    ensures { OnOk result (mappings_seen mappings.new.items ≡ mappings_seen mappings.old.items
+        ++ mappings_of (mappings_seen mappings.old.items) process (made_seen made.now) (outcome_seen made.now.outcome) (result_of seen.now.outcome) seen.now.second) }
 {
     match made.outcome {
         Outcome::Success(number) => match seen.outcome {
             LineResult::Value(own) => {
-                add_by(alloc, namings, process, made, number, own, seen.second)
+                let change = table_change(made.call);
+                add_by(
+                    alloc,
+                    mappings,
+                    process,
+                    made,
+                    change,
+                    number,
+                    own,
+                    seen.second,
+                )
             }
             _ => Ok(()),
         },
@@ -178,17 +193,7 @@ pub(crate) fn add_made(
     }
 }
 
-/// Whether it is a call of capability mode.
-pub(crate) fn is_of_mode(call: Call) -> bool
-    ensures { result ≡ is_of_mode (call_of call) }
-{
-    match call {
-        Call::CapEnter | Call::CapGetmode | Call::CapRightsLimit | Call::CapFcntlsLimit => true,
-        _ => false,
-    }
-}
-
-/// The same of a call of the task, if there is one.
+/// Whether a call of the task, if there is one, is for capability mode.
 fn is_call_of_mode(call: Option<&Syscall>) -> bool
     ensures { result ≡ is_call_of_mode (option_map (λ c. syscall_of c.now) call.entry) }
 {
@@ -225,24 +230,14 @@ pub(crate) fn is_silent(limited: bool, history: &[Past], process: usize, seen: &
     }
 }
 
-/// How many of a call's numbers are descriptors: those that stand first.
-pub(crate) fn descriptor_count(call: Call) -> usize
-    ensures { result ≡ descriptor_count (call_of call) }
-{
-    match call {
-        Call::Sendfd | Call::Renameat => 2,
-        _ => 1,
-    }
-}
-
 /// Whether nothing stands for one of so many numbers.
 pub(crate) fn any_unnamed(
-    namings: &[Naming],
+    mappings: &[FdMapping],
     process: usize,
     count: usize,
     operands: &[Operand],
 ) -> bool
-    ensures { result ≡ any_unnamed (namings_seen namings.now) process count (map operand_seen operands.now) }
+    ensures { result ≡ any_unnamed (mappings_seen mappings.now) process count (map operand_seen operands.now) }
 {
     if count == 0 {
         return false;
@@ -250,27 +245,45 @@ pub(crate) fn any_unnamed(
     match operands {
         [] => false,
         [Operand::Number(number), operands @ ..] => {
-            named(namings, process, *number).is_none()
-                || any_unnamed(namings, process, count - 1, operands)
+            named(mappings, process, *number).is_none()
+                || any_unnamed(mappings, process, count - 1, operands)
         }
-        [_, operands @ ..] => any_unnamed(namings, process, count, operands),
+        [_, operands @ ..] => any_unnamed(mappings, process, count, operands),
+    }
+}
+
+/// Adds that nothing stands for the number that such a change has made, if it has.
+fn add_lost_by(
+    mappings: &mut Vec<FdMapping>,
+    process: usize,
+    change: TableChange,
+    number: u32,
+) -> Result<(), Memory>
+    ensures { OnOk result (mappings_seen mappings.new.items ≡ mappings_seen mappings.old.items ++ lost_by process (table_seen change) number) }
+{
+    match change {
+        TableChange::Opened
+        | TableChange::Inherited
+        | TableChange::Copied
+        | TableChange::Received => add(mappings, process, number, None),
+        TableChange::Pair | TableChange::Freed | TableChange::Child => Ok(()),
+        TableChange::Limited | TableChange::Unchanged => Ok(()),
     }
 }
 
 /// Adds that nothing stands for a number that a skipped call has made.
 pub(crate) fn add_lost(
-    namings: &mut Vec<Naming>,
+    mappings: &mut Vec<FdMapping>,
     process: usize,
     made: &MadeCall,
 ) -> Result<(), Memory>
-    ensures { OnOk result (namings_seen namings.new.items ≡ namings_seen namings.old.items
+    ensures { OnOk result (mappings_seen mappings.new.items ≡ mappings_seen mappings.old.items
         ++ lost process (made_seen made.now) (outcome_seen made.now.outcome)) }
 {
-    let Outcome::Success(number) = made.outcome else {
-        return Ok(());
-    };
-    match made.call {
-        Call::Open | Call::Openat | Call::Dup | Call::Recvfd => add(namings, process, number, None),
-        _ => Ok(()),
+    match made.outcome {
+        Outcome::Success(number) => {
+            add_lost_by(mappings, process, table_change(made.call), number)
+        }
+        Outcome::Failure(_) => Ok(()),
     }
 }

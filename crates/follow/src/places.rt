@@ -3,14 +3,17 @@
 ghost use Rattle.std.specs.Prelude.{◌≡◌, ◌++◌, IfOk, not, option_map};
 ghost use Rattle.std.specs.List.{list_any};
 ghost use Rattle.std.specs.Str.{bytes_eq};
-ghost use Rattle.file_tree.specs.Places.{names_text};
-ghost use Rattle.instruction_set.specs.Views.{code_of, instruction_of};
+ghost use Rattle.file_tree.specs.Places.{ends_name, lies_at, names_text};
+ghost use Rattle.call_facts.specs.Facts.{facts_of};
+ghost use Rattle.instruction_set.specs.Programs.{called};
+ghost use Rattle.instruction_set.specs.Views.{code_of, instruction_of, syscall_of};
 ghost use Rattle.task.specs.Plans.{Grant as GrantSeen, NamedProgram as NamedProgramSeen};
 ghost use Rattle.task.specs.Views.{grants_of, node_of, nodes_of, programs_of};
-ghost use Rattle.follow.specs.Places.{begins_plainly, ends_name, global_path, is_foreign, is_link_to, is_path_of, is_place, is_plain, lies_at, names_path, placed};
+ghost use Rattle.follow.specs.Places.{begins_plainly, global_path, is_foreign, is_link_to, is_path_of, is_place, is_plain, names_path, path_from_root, placed};
 ghost use Rattle.follow.specs.Views.{placings_of};
 
-use file_tree::Kind;
+use call_facts::{Scope, first_path, scope_of};
+use file_tree::{Kind, ends_name, lies_at, rest_beneath};
 use instruction_set::{Instruction, Syscall};
 use rights::Memory;
 use std::alloc::Global;
@@ -31,26 +34,7 @@ pub(crate) struct Placed<'a> {
     pub back: &'a [u8],
 }
 
-/// Whether a name of a place ends before a text.
-fn ends_name(text: &[u8]) -> bool
-    ensures { result ≡ ends_name text.now }
-{
-    matches!(text, [] | [b'/', ..])
-}
-
-/// Whether a path is that of a place, or leads beneath it. A place is written without a slash at its end, so that of the root is empty. (own)
-#[tactic(auto, unfolding(crate::specs::Places::lies_at))]
-pub fn lies_at(place: &[u8], path: &[u8]) -> bool
-    ensures { result ≡ lies_at place.now path.now }
-{
-    match path.strip_prefix(place) {
-        None => false,
-        Some(rest) => ends_name(rest),
-    }
-}
-
 /// What a path of the record is in the task.
-#[tactic(auto, unfolding(crate::specs::Places::lies_at))]
 pub(crate) fn in_task<'a>(placings: &'a [Placing], path: &'a [u8]) -> Placed<'a>
     ensures { result.front.now ++ result.back.now ≡ placed (placings_of placings.now) path.now }
 {
@@ -60,13 +44,11 @@ pub(crate) fn in_task<'a>(placings: &'a [Placing], path: &'a [u8]) -> Placed<'a>
             back: path,
         },
         [placing, placings @ ..] => {
-            if let Some(back) = path.strip_prefix(placing.real.as_slice()) {
-                if ends_name(back) {
-                    return Placed {
-                        front: &placing.model,
-                        back,
-                    };
-                }
+            if let Some(back) = rest_beneath(&placing.real, path) {
+                return Placed {
+                    front: &placing.model,
+                    back,
+                };
             }
             in_task(placings, path)
         }
@@ -94,18 +76,23 @@ impl<'a> Placed<'a> {
     }
 }
 
+/// The path from the root that a call names.
+fn path_from_root(call: &Syscall) -> Option<&[u8]>
+    ensures { option_map (λ path. path.now) result ≡ path_from_root (facts_of (called (syscall_of call.now))).scope (syscall_of call.now) }
+{
+    match scope_of(call.call()) {
+        Scope::Root => first_path(call),
+        Scope::Mode | Scope::Table | Scope::Object | Scope::Node => None,
+        Scope::Beneath | Scope::System => None,
+    }
+}
+
 /// The path from the root that an instruction's call names.
 fn global_path(instruction: &Instruction) -> Option<&[u8]>
     ensures { option_map (λ path. path.now) result ≡ global_path (instruction_of instruction.now) }
 {
     match instruction {
-        Instruction::Invoke { call, .. } => match call {
-            Syscall::Open { path, .. }
-            | Syscall::Stat { path }
-            | Syscall::Mkdir { path }
-            | Syscall::Unlink { path, .. } => Some(path.bytes()),
-            _ => None,
-        },
+        Instruction::Invoke { call, .. } => path_from_root(call),
         _ => None,
     }
 }

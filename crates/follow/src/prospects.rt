@@ -3,11 +3,11 @@
 use crate::branching::may_show;
 use crate::leads::{Lead, Leads};
 use crate::numbers::is_process;
-use crate::outcomes::is_of_mode;
-use crate::standing::may_skip;
+use crate::progress::may_skip;
 use crate::streams::are_awaited;
 use crate::transfers::{is_repeat, transfer_in};
 use crate::worlds::end_of;
+use call_facts::{Passed, is_of_mode, passed_by};
 use instruction_set::{Instruction, Syscall};
 use records::Event;
 use simulator::LineResult;
@@ -33,7 +33,7 @@ fn may_pass(lead: &Lead<'_>, process: u8) -> bool {
         return false;
     };
     let transfer = transfer_in(&state.registers, Some(call), LineResult::Value(0));
-    let history = &lead.standing.history;
+    let history = &lead.progress.history;
     !lead.search.limited && is_of_mode(call.call())
         || is_repeat(history, usize::from(process), transfer)
 }
@@ -44,11 +44,11 @@ fn may_be_skipped(lead: &Lead<'_>, process: u8, event: &Event) -> bool {
         return false;
     };
     let setting = lead.search.setting(&lead.pairs);
-    let namings = &lead.standing.namings;
+    let mappings = &lead.progress.mappings;
     may_skip(
         lead.search.alloc,
         &setting,
-        namings,
+        mappings,
         usize::from(process),
         made,
     )
@@ -80,8 +80,8 @@ fn owes(lead: &Lead<'_>, process: u8) -> bool {
     };
     let messages = lead.machine.files().sent(end).len();
     for sent in &lead.sent {
-        if sent.process == process && matches!(call, Syscall::Write { .. }) {
-            return are_awaited(&lead.standing.left, sent.end, messages);
+        if sent.process == process && passed_by(call.call()) == Passed::ByteOut {
+            return are_awaited(&lead.progress.left, sent.end, messages);
         }
     }
     false
@@ -106,7 +106,7 @@ fn prospect_before(lead: &Lead<'_>, process: u8, event: &Event) -> Prospect {
 
 /// What may come of the instruction at which a process stands.
 fn prospect_of(lead: &Lead<'_>, process: u8) -> Prospect {
-    for entry in &lead.standing.left {
+    for entry in &lead.progress.left {
         if is_process(&lead.pairs, entry.process, usize::from(process)) {
             return prospect_before(lead, process, &entry.event);
         }

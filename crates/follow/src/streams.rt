@@ -1,7 +1,7 @@
 //! What processes of a record send each other through the ends of pairs.
 
+use call_facts::{Passed, passed_by};
 use records::{Entry, Event, Operand, Outcome, RecordedEnd};
-use rights::Call;
 
 /// The end through which a process of the task has shown a write last.
 #[derive(Clone, Copy)]
@@ -10,14 +10,14 @@ pub(crate) struct Sent {
     pub end: RecordedEnd,
 }
 
-/// The end through which bytes went in an entry, if it is this call.
-fn end_in(entry: &Entry, call: Call) -> Option<RecordedEnd> {
+/// The end through which bytes went in an entry, if it passes this.
+fn end_in(entry: &Entry, passed: Passed) -> Option<RecordedEnd> {
     let Event::Called(made) = &entry.event else {
         return None;
     };
     match (made.operands.first(), made.outcome) {
         (Some(Operand::Number(number)), Outcome::Success(bytes))
-            if made.call == call && bytes > 0 => { made.end_of(*number) }
+            if passed_by(made.call) == passed && bytes > 0 => { made.end_of(*number) }
         _ => None,
     }
 }
@@ -25,16 +25,16 @@ fn end_in(entry: &Entry, call: Call) -> Option<RecordedEnd> {
 /// The end through which the entry of a place writes, if it does.
 pub(crate) fn end_written(left: &[&Entry], at: Option<usize>) -> Option<RecordedEnd> {
     match left.get(at?) {
-        Some(entry) => end_in(entry, Call::Write),
+        Some(entry) => end_in(entry, Passed::ByteOut),
         None => None,
     }
 }
 
-/// How many of these entries are this call through an end.
-fn count(left: &[&Entry], call: Call, end: RecordedEnd) -> usize {
+/// How many of these entries pass this through an end.
+fn count(left: &[&Entry], passed: Passed, end: RecordedEnd) -> usize {
     let mut count: usize = 0;
     for entry in left {
-        if end_in(entry, call) == Some(end) {
+        if end_in(entry, passed) == Some(end) {
             count = count.saturating_add(1);
         }
     }
@@ -47,6 +47,6 @@ pub(crate) fn are_awaited(left: &[&Entry], end: RecordedEnd, messages: usize) ->
         pair: end.pair,
         side: end.side.other(),
     };
-    let sent = count(left, Call::Write, end);
-    count(left, Call::Read, other) > sent.saturating_add(messages)
+    let sent = count(left, Passed::ByteOut, end);
+    count(left, Passed::ByteIn, other) > sent.saturating_add(messages)
 }

@@ -1,13 +1,16 @@
 //! Reads and writes that were shown, and those that repeat them.
 
 ghost use Rattle.std.specs.Prelude.{◌≡◌, option_map};
+ghost use Rattle.call_facts.specs.FactViews.{passed_seen};
 ghost use Rattle.instruction_set.specs.Views.{syscall_of};
 ghost use Rattle.simulator.specs.Views.{result_of};
-ghost use Rattle.follow.specs.Outcomes.{is_repeat, repeatable, repeats_from, same_transfer, transfer_by, transfer_in};
+ghost use Rattle.follow.specs.Outcomes.{is_repeat, repeatable, repeats_from, same_transfer, transfer_by, transfer_in, transfer_through};
 ghost use Rattle.follow.specs.Views.{history_of, past_of, transfer_of};
 
 use crate::given::value_of;
+use call_facts::{Passed, first_operand, passed_by};
 use instruction_set::Syscall;
+use rights::Call;
 use rights::limits::REGISTERS;
 use simulator::LineResult;
 
@@ -38,16 +41,31 @@ impl Transfer {
     }
 }
 
+/// What is transferred through a descriptor by what is passed.
+fn transfer_through(passed: Passed, descriptor: u32) -> Option<Transfer>
+    ensures { option_map transfer_of result ≡ transfer_through (passed_seen passed) descriptor }
+{
+    match passed {
+        Passed::ByteIn => Some(Transfer::Read(descriptor)),
+        Passed::ByteOut => Some(Transfer::Write(descriptor)),
+        Passed::DescriptorIn | Passed::DescriptorOut | Passed::Nothing => None,
+    }
+}
+
+/// Whether a call passes a byte.
+pub(crate) fn passes_byte(call: Call) -> bool {
+    matches!(passed_by(call), Passed::ByteIn | Passed::ByteOut)
+}
+
 /// What a call transfers that succeeds.
 fn transfer_by(registers: &[u32; REGISTERS], call: &Syscall) -> Option<Transfer>
     ensures { option_map transfer_of result ≡ transfer_by registers.now (syscall_of call.now) }
 {
-    match call {
-        Syscall::Read { descriptor } => Some(Transfer::Read(value_of(registers, *descriptor))),
-        Syscall::Write { descriptor, .. } => {
-            Some(Transfer::Write(value_of(registers, *descriptor)))
+    match first_operand(call) {
+        Some(descriptor) => {
+            transfer_through(passed_by(call.call()), value_of(registers, descriptor))
         }
-        _ => None,
+        None => None,
     }
 }
 

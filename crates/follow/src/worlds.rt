@@ -5,6 +5,7 @@ use crate::digests::{digest_of, open_at};
 use crate::given::value_of;
 use crate::leads::{Lead, Leads, Trial, event_of};
 use crate::numbers::is_recorded;
+use call_facts::{Passed, first_operand, passed_by};
 use fd_table::{End, Object};
 use indexmap::IndexSet;
 use instruction_set::{Instruction, Syscall};
@@ -38,13 +39,10 @@ fn end_at(lead: &Lead<'_>, process: u8, number: u8) -> Option<End> {
 
 /// The end through which a call of a process takes or gives a message, if it does.
 pub(crate) fn end_of(lead: &Lead<'_>, process: u8, call: &Syscall) -> Option<End> {
-    let channel = match call {
-        Syscall::Read { descriptor }
-        | Syscall::Recvfd { descriptor }
-        | Syscall::Write { descriptor, .. }
-        | Syscall::Sendfd { descriptor, .. } => *descriptor,
-        _ => return None,
-    };
+    if passed_by(call.call()) == Passed::Nothing {
+        return None;
+    }
+    let channel = first_operand(call)?;
     let Some(state) = lead.process(process) else {
         return None;
     };

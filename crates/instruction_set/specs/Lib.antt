@@ -3,7 +3,6 @@ pub mod CallNeeds
 pub mod Fields
 pub mod Forms
 pub mod Lines
-pub mod Looking
 pub mod Paths
 pub mod Programs
 pub mod Successors

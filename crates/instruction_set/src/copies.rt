@@ -64,7 +64,10 @@ impl Syscall {
             Syscall::CapGetmode => Syscall::CapGetmode,
             Syscall::Socketpair => Syscall::Socketpair,
             Syscall::Fork => Syscall::Fork,
-            _ => unreachable!(),
+            Syscall::Open { .. } | Syscall::Stat { .. } | Syscall::Mkdir { .. } => unreachable!(),
+            Syscall::Openat { .. } | Syscall::Fstatat { .. } => unreachable!(),
+            Syscall::Mkdirat { .. } | Syscall::Unlinkat { .. } => unreachable!(),
+            Syscall::Unlink { .. } | Syscall::Renameat { .. } => unreachable!(),
         }
     }
 
@@ -149,7 +152,24 @@ impl Syscall {
                     new_path,
                 })
             }
-            _ => Ok(self.copy_plain()),
+            Syscall::Read { .. }
+            | Syscall::Write { .. }
+            | Syscall::Sendfd { .. }
+            | Syscall::Recvfd { .. }
+            | Syscall::Lseek { .. }
+            | Syscall::Ftruncate { .. }
+            | Syscall::Fsync { .. }
+            | Syscall::Fstat { .. }
+            | Syscall::FcntlGetfl { .. }
+            | Syscall::FcntlSetfl { .. }
+            | Syscall::Dup { .. }
+            | Syscall::Close { .. }
+            | Syscall::CapRightsLimit { .. }
+            | Syscall::CapFcntlsLimit { .. }
+            | Syscall::CapEnter
+            | Syscall::CapGetmode
+            | Syscall::Socketpair
+            | Syscall::Fork => Ok(self.copy_plain()),
         }
     }
 }

@@ -4,7 +4,6 @@
 pub mod call_needs;
 mod copies;
 pub mod instructions;
-pub mod looking;
 pub mod operands;
 pub mod programs;
 pub mod successors;

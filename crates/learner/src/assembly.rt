@@ -4,7 +4,8 @@ use crate::calls::{is_descriptor, path_of, place_given};
 use crate::places::last_name;
 use crate::room::Room;
 use crate::tables::{Holding, Table};
-use records::{MadeCall, Operand, add_flags};
+use call_facts::sets::{add_commands, add_flags, add_rights};
+use records::{MadeCall, Operand};
 use rights::Call;
 use texts::{Page, Say, parts_of, say};
 
@@ -48,8 +49,14 @@ fn add_operand(page: &mut Page, table: &Table, call: Call, at: usize, operand: &
             page.bytes(b" ");
             add_flags(page, *flags);
         }
-        Operand::Rights(rights) => say!(page; " ", *rights),
-        Operand::Commands(commands) => say!(page; " ", *commands),
+        Operand::Rights(rights) => {
+            page.bytes(b" ");
+            add_rights(page, *rights);
+        }
+        Operand::Commands(commands) => {
+            page.bytes(b" ");
+            add_commands(page, *commands);
+        }
         Operand::Directory(true) => page.bytes(b" dir"),
         Operand::Directory(false) => {}
     }

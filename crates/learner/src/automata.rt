@@ -50,7 +50,7 @@ pub(crate) struct Automaton {
     pub is_full: bool,
 }
 
-/// Adds a state to those behind a call.
+/// Adds a state to those after a call.
 fn add_state(room: &mut Room, states: &mut Vec<usize>, state: usize) {
     if !states.contains(&state) {
         room.push(states, state);
@@ -58,8 +58,8 @@ fn add_state(room: &mut Room, states: &mut Vec<usize>, state: usize) {
 }
 
 impl Choice {
-    /// The states behind it, by how it comes back.
-    fn behind(&mut self, arrival: Arrival) -> &mut Vec<usize> {
+    /// The states after it, by how it comes back.
+    fn successors(&mut self, arrival: Arrival) -> &mut Vec<usize> {
         match arrival {
             Arrival::Success => &mut self.success,
             Arrival::Failure => &mut self.failure,
@@ -146,7 +146,7 @@ impl Automaton {
         if let Some(state) = self.states.get_mut(state) {
             let at = state.choice(room, step);
             if let Some(choice) = state.choices.get_mut(at) {
-                add_state(room, choice.behind(arrival), next);
+                add_state(room, choice.successors(arrival), next);
             }
         }
     }

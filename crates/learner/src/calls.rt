@@ -1,5 +1,9 @@
 //! What a call of a record was given and came to.
 
+use call_facts::{
+    NameChange, Passed, Role, Scope, TableChange, name_change, passed_by, roles_of, scope_of,
+    table_change,
+};
 use records::{Binding, MadeCall, Operand, Outcome, RecordedEnd};
 use rights::{Call, Errno, OpenFlags};
 
@@ -84,10 +88,16 @@ pub(crate) fn creates(made: &MadeCall) -> bool {
 
 /// Whether a call makes, moves or removes a name.
 pub(crate) fn changes_names(made: &MadeCall) -> bool {
-    match made.call {
-        Call::Mkdir | Call::Mkdirat | Call::Unlink | Call::Unlinkat | Call::Renameat => true,
-        _ => creates(made),
+    match name_change(made.call) {
+        NameChange::Stays => false,
+        NameChange::Created => creates(made),
+        NameChange::Made | NameChange::Removed | NameChange::Moved => true,
     }
+}
+
+/// Whether a call makes a directory, or a file that isn't there.
+pub(crate) fn makes_name(made: &MadeCall) -> bool {
+    name_change(made.call) == NameChange::Made || creates(made)
 }
 
 /// Whether what is removed is a directory.
@@ -97,19 +107,36 @@ pub(crate) fn removes_directory(made: &MadeCall) -> bool {
 
 /// Whether a call has a descriptor as the operand of a place.
 pub(crate) fn is_descriptor(call: Call, at: usize) -> bool {
-    match call {
-        Call::Sendfd => at < 2,
-        _ => at == 0 || at == 2,
+    roles_of(call).get(at) == Some(&Role::Descriptor)
+}
+
+/// Where the operand of a call stands that is for this, behind so many others that are.
+fn role_place(call: Call, role: Role, others: usize) -> Option<usize> {
+    let mut left = others;
+    for (at, own) in roles_of(call).iter().enumerate() {
+        if *own == role {
+            if left == 0 {
+                return Some(at);
+            }
+            left -= 1;
+        }
     }
+    None
 }
 
 /// Where the path of a call stands among its operands: behind its directory, if it has one.
 pub(crate) fn path_place(call: Call) -> Option<usize> {
-    match call {
-        Call::Open | Call::Stat | Call::Mkdir | Call::Unlink => Some(0),
-        Call::Openat | Call::Fstatat | Call::Mkdirat | Call::Unlinkat | Call::Renameat => Some(1),
-        _ => None,
-    }
+    role_place(call, Role::Path, 0)
+}
+
+/// Where the second path of a call stands.
+pub(crate) fn second_path_place(call: Call) -> Option<usize> {
+    role_place(call, Role::Path, 1)
+}
+
+/// Where the second descriptor of a call stands.
+pub(crate) fn second_place(call: Call) -> Option<usize> {
+    role_place(call, Role::Descriptor, 1)
 }
 
 /// The path that a call is given, behind its directory if it has one.
@@ -136,10 +163,32 @@ pub(crate) fn place_given(made: &MadeCall) -> Option<&[u8]> {
     }
 }
 
+/// Whether a call opens what stands at a path.
+pub(crate) fn opens(call: Call) -> bool {
+    match table_change(call) {
+        TableChange::Opened | TableChange::Inherited => true,
+        TableChange::Copied | TableChange::Received | TableChange::Pair => false,
+        TableChange::Child | TableChange::Freed => false,
+        TableChange::Limited | TableChange::Unchanged => false,
+    }
+}
+
 /// Whether a call makes a descriptor.
 pub(crate) fn makes_descriptor(call: Call) -> bool {
-    matches!(
-        call,
-        Call::Open | Call::Openat | Call::Recvfd | Call::Dup | Call::Socketpair
-    )
+    match table_change(call) {
+        TableChange::Opened | TableChange::Inherited | TableChange::Copied => true,
+        TableChange::Received | TableChange::Pair => true,
+        TableChange::Child | TableChange::Freed => false,
+        TableChange::Limited | TableChange::Unchanged => false,
+    }
+}
+
+/// Whether a call sends a descriptor.
+pub(crate) fn sends_descriptor(call: Call) -> bool {
+    passed_by(call) == Passed::DescriptorOut
+}
+
+/// Whether a call works on nodes alone, so that a socket isn't what it goes by.
+pub(crate) fn wants_node(call: Call) -> bool {
+    scope_of(call) == Scope::Node
 }

@@ -1,16 +1,20 @@
 //! What is asked of each descriptor of a record from a call on.
 
-use crate::calls::{ROOT, changes_names, flags_of, number_at, path_at, path_place};
+use crate::calls::{
+    ROOT, changes_names, flags_of, number_at, path_at, path_place, second_path_place, second_place,
+};
 use crate::entrances::Entrances;
 use crate::evidence::place_in;
 use crate::further::FurtherRights;
-use crate::handles::{Handles, Naming};
+use crate::handles::{CallHandles, Handles};
 use crate::libraries::library_of;
 use crate::places::{above, path_from};
 use crate::room::Room;
 use crate::trees::Tree;
+use call_facts::sets::read_rights;
+use call_facts::{Scope, beneath, scope_of};
 use records::{Entry, Event, LeftOut, MadeCall, Reason};
-use rights::need_table::{Position, needs};
+use rights::need_table::{Position, command_needed, needs};
 use rights::{Call, Fcntls, Rights};
 
 /// What is asked of a descriptor.
@@ -91,38 +95,25 @@ impl Demand {
     }
 }
 
-/// The call that goes by a directory in place of one that goes by a path alone.
-pub(crate) fn beneath(call: Call) -> Call {
-    match call {
-        Call::Open => Call::Openat,
-        Call::Stat => Call::Fstatat,
-        Call::Mkdir => Call::Mkdirat,
-        Call::Unlink => Call::Unlinkat,
-        _ => call,
-    }
-}
-
 /// What a call asks of the descriptor at a position, or of the directory that stands for it.
 fn asked_by(made: &MadeCall, position: Position) -> Demand {
     let call = beneath(made.call);
-    let commands = match call {
-        Call::FcntlGetfl => Fcntls::GETFL,
-        Call::FcntlSetfl => Fcntls::SETFL,
-        _ => Fcntls::empty(),
-    };
     Demand {
         rights: needs(call, flags_of(made), position, true),
-        commands,
+        commands: command_needed(call),
         ..Demand::nothing()
     }
 }
 
 /// Whether a call names, makes or removes something by a path alone.
 pub(crate) fn is_global(made: &MadeCall) -> bool {
-    match made.call {
-        Call::Open | Call::Stat | Call::Mkdir | Call::Unlink => true,
-        Call::Renameat => number_at(made, 0) == Some(ROOT) || number_at(made, 2) == Some(ROOT),
-        _ => false,
+    match scope_of(made.call) {
+        Scope::Root => true,
+        Scope::Beneath => {
+            number_at(made, 0) == Some(ROOT)
+                || second_place(made.call).is_some_and(|at| number_at(made, at) == Some(ROOT))
+        }
+        Scope::Mode | Scope::Table | Scope::Object | Scope::Node | Scope::System => false,
     }
 }
 
@@ -148,14 +139,17 @@ pub(crate) fn goes_anywhere(
     tree: &Tree,
     handles: &Handles,
     made: &MadeCall,
-    naming: &Naming,
+    naming: &CallHandles,
 ) -> bool {
     if path_place(made.call).is_none() {
         return false;
     }
     is_global(made)
         || leads_out(room, tree, handles, made, naming.first, 1)
-        || (made.call == Call::Renameat && leads_out(room, tree, handles, made, naming.second, 3))
+        || match second_path_place(made.call) {
+            Some(at) => leads_out(room, tree, handles, made, naming.second, at),
+            None => false,
+        }
 }
 
 /// How a plan has a call in the mode.
@@ -164,7 +158,7 @@ pub(crate) fn way_in_mode(
     tree: &Tree,
     handles: &Handles,
     made: &MadeCall,
-    naming: &Naming,
+    naming: &CallHandles,
 ) -> Way {
     if !goes_anywhere(room, tree, handles, made, naming) {
         return Way::Kept;
@@ -187,7 +181,7 @@ struct Course<'a> {
 
 impl<'a> Course<'a> {
     /// Whether the path of a call leads to a name of its directory.
-    fn is_in(&self, room: &mut Room, made: &MadeCall, naming: &Naming) -> bool {
+    fn is_in(&self, room: &mut Room, made: &MadeCall, naming: &CallHandles) -> bool {
         match (
             self.handles.place_at(naming.first),
             place_in(room, self.tree, made, 1),
@@ -227,7 +221,7 @@ impl Demands {
     /// Notes what is left to the descriptors of a process that enters the mode behind an entry.
     fn enter(&mut self, room: &mut Room, course: &Course<'_>, process: u32, entry: usize) {
         for (handle, own) in course.handles.list.iter().enumerate() {
-            if own.process == process && own.is_open_behind(entry) {
+            if own.process == process && own.is_open_after(entry) {
                 let mut demand = self.at(handle);
                 demand.is_used = demand.is_used || self.is_locked(course.handles, handle);
                 let limit = Limit {
@@ -268,7 +262,7 @@ impl Demands {
     }
 
     /// What is asked of what an entry makes.
-    pub(crate) fn made_by(&self, naming: &Naming) -> Demand {
+    pub(crate) fn made_by(&self, naming: &CallHandles) -> Demand {
         let mut demand = Demand::nothing();
         for handle in naming.made..naming.made.saturating_add(naming.count) {
             demand = demand.with(self.at(handle));
@@ -277,7 +271,13 @@ impl Demands {
     }
 
     /// Hands on what is asked of what an entry makes to what that comes of.
-    fn hand_on(&mut self, room: &mut Room, course: &Course<'_>, made: &MadeCall, naming: &Naming) {
+    fn hand_on(
+        &mut self,
+        room: &mut Room,
+        course: &Course<'_>,
+        made: &MadeCall,
+        naming: &CallHandles,
+    ) {
         for handle in naming.made..naming.made.saturating_add(naming.count) {
             let source = course.handles.source_of(handle);
             let mut demand = self.at(handle);
@@ -357,7 +357,7 @@ impl Demands {
         let handle = course.handles.position_at(process, wanted.descriptor, at);
         let mut demand = Demand::nothing();
         if left_out.reason != Reason::Global {
-            demand.rights = right_of(room, &wanted.right);
+            demand.rights = read_rights(&wanted.right);
             demand.further = FurtherRights::named(&wanted.right);
         }
         demand.is_used = true;
@@ -377,34 +377,6 @@ impl Demands {
             Event::Ended => {}
         }
     }
-}
-
-/// The rights that a task can have.
-pub(crate) const RIGHTS: [Rights; 14] = [
-    Rights::READ,
-    Rights::WRITE,
-    Rights::SEEK,
-    Rights::FTRUNCATE,
-    Rights::FSYNC,
-    Rights::FSTAT,
-    Rights::FCNTL,
-    Rights::LOOKUP,
-    Rights::CREATE,
-    Rights::FSTATAT,
-    Rights::MKDIRAT,
-    Rights::UNLINKAT,
-    Rights::RENAMEAT_SOURCE,
-    Rights::RENAMEAT_TARGET,
-];
-
-/// The right of a name, if a task can have it.
-pub(crate) fn right_of(room: &mut Room, name: &[u8]) -> Rights {
-    for right in RIGHTS {
-        if room.text(right).as_slice() == name {
-            return right;
-        }
-    }
-    Rights::empty()
 }
 
 /// The descriptors of files that are locked outside the mode: a lock lasts as long as one of them is open.

@@ -5,7 +5,7 @@ use crate::needs::{Ends, Need, need_of};
 use crate::policies::Policy;
 use crate::room::Room;
 use crate::tables::{Held, Holding, Table};
-use crate::trees::{Deed, Link, Node, Presence, Tree};
+use crate::trees::{Link, Node, Presence, Tree, WorldAction};
 use crate::worlds::{Footing, WorldEnd, world_code};
 use rights::limits::{MAX_BYTES, MAX_DESCRIPTORS};
 use rights::{Op, Side};

@@ -3,6 +3,7 @@
 use crate::calls::answer_of;
 use crate::room::Room;
 use crate::running::{Learning, Visit};
+use call_facts::forks;
 use records::{Entry, Event, MadeCall};
 use rights::Call;
 
@@ -149,13 +150,15 @@ impl Entrances {
         made: &MadeCall,
         is_inside: bool,
     ) {
-        match (made.call, answer_of(made)) {
-            (Call::Fork, Some(child)) if is_inside => {
-                room.push(inside, child);
-                self.leave_out(child);
-            }
-            (Call::CapEnter, Some(_)) if !is_inside => room.push(inside, entry.process),
-            _ => {}
+        let Some(answer) = answer_of(made) else {
+            return;
+        };
+        if is_inside && forks(made.call) {
+            room.push(inside, answer);
+            self.leave_out(answer);
+        }
+        if !is_inside && made.call == Call::CapEnter {
+            room.push(inside, entry.process);
         }
     }
 

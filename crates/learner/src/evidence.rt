@@ -1,12 +1,14 @@
 //! What the calls of a record tell of the tree.
 
 use crate::calls::{
-    ROOT, answer_of, creates, fails_with, number_at, path_at, path_of, path_place, place_given,
-    place_of, removes_directory,
+    ROOT, answer_of, creates, fails_with, makes_name, number_at, opens, path_at, path_of,
+    path_place, place_given, place_of, removes_directory,
 };
-use crate::places::{above, behind, ends_at_directory, last_name, place_at};
+use crate::places::{above, ends_at_directory, last_name, place_at};
 use crate::room::Room;
 use crate::trees::{Presence, Tree};
+use call_facts::{NameChange, frees, name_change};
+use file_tree::rest_beneath;
 use records::{Binding, Entry, Event, LeftOut, MadeCall};
 use rights::{Call, Errno};
 
@@ -50,7 +52,7 @@ pub(crate) fn place_in(
 fn tells_of(made: &MadeCall, place: &[u8]) -> bool {
     for binding in &made.bindings {
         if let Binding::Place { place: own, .. } = binding {
-            if behind(place, own).is_some() {
+            if rest_beneath(place, own).is_some() {
                 return true;
             }
         }
@@ -93,7 +95,7 @@ fn add_link(room: &mut Room, tree: &mut Tree, records: &[Vec<Entry>], path: &[u8
 
 /// Notes the link by which an open led to another place.
 fn add_link_of(room: &mut Room, tree: &mut Tree, records: &[Vec<Entry>], made: &MadeCall) {
-    if !matches!(made.call, Call::Open | Call::Openat) {
+    if !opens(made.call) {
         return;
     }
     let at = path_place(made.call).unwrap_or(0);
@@ -129,16 +131,10 @@ fn kind_of(made: &MadeCall) -> Presence {
 
 /// What is told by a call that succeeded at a place.
 fn add_success(room: &mut Room, tree: &mut Tree, made: &MadeCall, place: &[u8]) {
-    match made.call {
-        Call::Open | Call::Openat => {
-            if creates(made) {
-                tree.made(room, place, Presence::File, true);
-            } else {
-                tree.there(room, place, kind_of(made));
-            }
-        }
-        Call::Mkdir | Call::Mkdirat => tree.made(room, place, Presence::Directory, false),
-        Call::Unlink | Call::Unlinkat => {
+    match name_change(made.call) {
+        NameChange::Created if creates(made) => tree.made(room, place, Presence::File, true),
+        NameChange::Made => tree.made(room, place, Presence::Directory, false),
+        NameChange::Removed => {
             let presence = if removes_directory(made) {
                 Presence::Directory
             } else {
@@ -146,13 +142,15 @@ fn add_success(room: &mut Room, tree: &mut Tree, made: &MadeCall, place: &[u8]) 
             };
             tree.removed(room, place, presence);
         }
-        _ => tree.there(room, place, kind_of(made)),
+        NameChange::Created | NameChange::Moved | NameChange::Stays => {
+            tree.there(room, place, kind_of(made))
+        }
     }
 }
 
 /// Whether a call failed since what stands at its place is a directory.
 fn is_of_directory(made: &MadeCall) -> bool {
-    let is_removal = matches!(made.call, Call::Unlink | Call::Unlinkat);
+    let is_removal = name_change(made.call) == NameChange::Removed;
     fails_with(made, Errno::EEXIST)
         || fails_with(made, Errno::EISDIR)
         || is_removal && fails_with(made, Errno::EPERM)
@@ -178,9 +176,8 @@ fn add_full(room: &mut Room, tree: &mut Tree, place: &[u8]) {
 
 /// What is told by a call that failed at a place.
 fn add_failure(room: &mut Room, tree: &mut Tree, made: &MadeCall, place: &[u8]) {
-    let is_making = matches!(made.call, Call::Mkdir | Call::Mkdirat) || creates(made);
     if fails_with(made, Errno::ENOENT) {
-        if is_making {
+        if makes_name(made) {
             tree.absent_above(room, place);
         } else {
             tree.absent(room, place);
@@ -313,10 +310,12 @@ fn opened_at(opened: &[Opened], process: u32, number: u32) -> Option<usize> {
 
 /// Notes which descriptors a call opens and closes.
 fn note_opened(room: &mut Room, opened: &mut Vec<Opened>, process: u32, made: &MadeCall) {
-    let number = match made.call {
-        Call::Open | Call::Openat => answer_of(made),
-        Call::Close => number_at(made, 0),
-        _ => None,
+    let number = if opens(made.call) {
+        answer_of(made)
+    } else if frees(made.call) {
+        number_at(made, 0)
+    } else {
+        None
     };
     let Some(number) = number else {
         return;
@@ -326,7 +325,7 @@ fn note_opened(room: &mut Room, opened: &mut Vec<Opened>, process: u32, made: &M
             opened.swap_remove(at);
         }
     }
-    if let (Some(place), true) = (place_given(made), made.call != Call::Close) {
+    if let (Some(place), true) = (place_given(made), opens(made.call)) {
         let place = room.copy(place);
         room.push(
             opened,

@@ -1,12 +1,14 @@
 //! What FreeBSD does in the mode with a call that a task hasn't.
 
-use crate::demands::{Way, right_of};
+use crate::demands::Way;
 use crate::further::FurtherRights;
 use crate::policies::Account;
 use crate::room::Room;
 use crate::trees::Tree;
+use call_facts::sets::read_rights;
+use call_facts::{TableChange, table_change};
 use records::{Entry, Event, LeftOut, MadeCall, Reason, WantedRight};
-use rights::{Call, Rights};
+use rights::Rights;
 
 /// That, and where the right is that the call wants.
 #[derive(Clone, Copy, PartialEq, Eq)]
@@ -83,13 +85,17 @@ fn fate_of_made(room: &mut Room, told: &Told<'_>, at: Option<usize>) -> Fate {
     let Some(made) = told.made_at(at) else {
         return Fate::NotKnown;
     };
-    match made.call {
-        Call::Open if told.account.way_of(room, told.tree, made, at) == Way::Late => {
-            Fate::OfLibrary
+    match table_change(made.call) {
+        TableChange::Opened => {
+            if told.account.way_of(room, told.tree, made, at) == Way::Late {
+                Fate::OfLibrary
+            } else {
+                Fate::InLimits
+            }
         }
-        Call::Open => Fate::InLimits,
-        Call::Socketpair | Call::Dup => Fate::MadeThere,
-        _ => Fate::NotKnown,
+        TableChange::Pair | TableChange::Copied => Fate::MadeThere,
+        TableChange::Inherited | TableChange::Received | TableChange::Child => Fate::NotKnown,
+        TableChange::Freed | TableChange::Limited | TableChange::Unchanged => Fate::NotKnown,
     }
 }
 
@@ -124,7 +130,7 @@ fn fate_of_wanting(
     at: usize,
 ) -> Fate {
     let further = FurtherRights::named(&wanted.right);
-    if further.is_empty() && right_of(room, &wanted.right) == Rights::empty() {
+    if further.is_empty() && read_rights(&wanted.right) == Rights::empty() {
         return Fate::NotKnown;
     }
     match told

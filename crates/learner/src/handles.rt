@@ -1,10 +1,13 @@
 //! The descriptors of a record's processes, each from the call that gives it to the one that closes it.
 
-use crate::calls::{answer_of, end_through, number_at, place_of, second_end};
+use crate::calls::{
+    answer_of, end_through, number_at, place_of, second_end, second_place, sends_descriptor,
+};
 use crate::room::Room;
 use crate::trees::Tree;
+use call_facts::{TableChange, table_change};
 use records::{Entry, Event, LeftOut, MadeCall, RecordedEnd};
-use rights::{Call, Side};
+use rights::Side;
 
 /// How many numbers are input, output and errors.
 const STANDARD: u32 = 3;
@@ -30,7 +33,7 @@ pub(crate) struct Handle {
 
 /// The descriptors that an entry names, and those that it makes, by their places in the list of them.
 #[derive(Clone, Copy)]
-pub(crate) struct Naming {
+pub(crate) struct CallHandles {
     pub first: Option<usize>,
     pub second: Option<usize>,
     /// The first that it makes, and how many.
@@ -51,19 +54,10 @@ struct Sent {
 #[derive(Drop)]
 pub(crate) struct Handles {
     pub list: Vec<Handle>,
-    pub namings: Vec<Naming>,
+    pub namings: Vec<CallHandles>,
     /// Those that are open at the entry that is looked at.
     open: Vec<usize>,
     sent: Vec<Sent>,
-}
-
-/// The place in a call of its second descriptor.
-fn second_place(call: Call) -> Option<usize> {
-    match call {
-        Call::Sendfd => Some(1),
-        Call::Renameat => Some(2),
-        _ => None,
-    }
 }
 
 /// Whether what comes through a descriptor is a connection: an end of a pair of its own, through one of the world.
@@ -76,7 +70,7 @@ fn comes_as_connection(made: &MadeCall, answer: u32) -> bool {
 
 impl Handle {
     /// Whether it is open behind an entry.
-    pub(crate) fn is_open_behind(&self, entry: usize) -> bool {
+    pub(crate) fn is_open_after(&self, entry: usize) -> bool {
         let is_made = match self.made {
             Some(made) => made <= entry,
             None => true,
@@ -285,7 +279,7 @@ impl Handles {
         entry: &Entry,
         made: &MadeCall,
         at: usize,
-        naming: &Naming,
+        naming: &CallHandles,
         answer: u32,
     ) {
         let place = match place_of(made, answer) {
@@ -343,7 +337,7 @@ impl Handles {
             let Some(handle) = self.list.get(position) else {
                 break;
             };
-            if handle.process == entry.process && handle.is_open_behind(at) {
+            if handle.process == entry.process && handle.is_open_after(at) {
                 let copy = Handle {
                     process: child,
                     number: handle.number,
@@ -367,36 +361,35 @@ impl Handles {
         entry: &Entry,
         made: &MadeCall,
         at: usize,
-        naming: &Naming,
+        naming: &CallHandles,
         answer: u32,
     ) {
-        match made.call {
-            Call::Open | Call::Openat => {
+        match table_change(made.call) {
+            TableChange::Opened | TableChange::Inherited => {
                 let place = match place_of(made, answer) {
                     Some(place) => Some(tree.resolve(room, b"/", place)),
                     None => None,
                 };
-                let source = if made.call == Call::Openat {
-                    naming.first
-                } else {
-                    None
-                };
-                self.make(room, entry, at, answer, place, source);
+                self.make(room, entry, at, answer, place, naming.first);
             }
-            Call::Recvfd => self.take(room, tree, entry, made, at, naming, answer),
-            Call::Dup => {
+            TableChange::Received => self.take(room, tree, entry, made, at, naming, answer),
+            TableChange::Copied => {
                 let place = self.place_of(room, naming.first);
                 self.make(room, entry, at, answer, place, naming.first);
             }
-            Call::Socketpair => {
+            TableChange::Pair => {
                 let (second, _) = second_end(made, answer).unwrap_or((answer, answer));
                 self.make(room, entry, at, answer, None, None);
                 self.make(room, entry, at, second, None, None);
             }
-            Call::Fork => self.fork(room, entry, at, answer),
-            Call::Close => self.close(entry.process, number_at(made, 0).unwrap_or(answer), at),
-            Call::Sendfd => self.send(room, made, naming.second),
-            _ => {}
+            TableChange::Child => self.fork(room, entry, at, answer),
+            TableChange::Freed => {
+                self.close(entry.process, number_at(made, 0).unwrap_or(answer), at);
+            }
+            TableChange::Limited | TableChange::Unchanged => {}
+        }
+        if sends_descriptor(made.call) {
+            self.send(room, made, naming.second);
         }
     }
 
@@ -408,13 +401,13 @@ impl Handles {
         entry: &Entry,
         made: &MadeCall,
         at: usize,
-    ) -> Naming {
+    ) -> CallHandles {
         let first = self.named(room, tree, entry, made, 0, at);
         let second = match second_place(made.call) {
             Some(place) => self.named(room, tree, entry, made, place, at),
             None => None,
         };
-        let mut naming = Naming {
+        let mut naming = CallHandles {
             first,
             second,
             made: self.list.len(),
@@ -436,7 +429,7 @@ impl Handles {
             sent: room.list(),
         };
         for (at, entry) in entries.iter().enumerate() {
-            let mut naming = Naming {
+            let mut naming = CallHandles {
                 first: None,
                 second: None,
                 made: handles.list.len(),
@@ -460,10 +453,7 @@ impl Handles {
     /// Which descriptor a number of a process is behind an entry, if it is known.
     pub(crate) fn position_at(&self, process: u32, number: u32, entry: usize) -> Option<usize> {
         for (at, handle) in self.list.iter().enumerate() {
-            if handle.process == process
-                && handle.number == number
-                && handle.is_open_behind(entry)
-            {
+            if handle.process == process && handle.number == number && handle.is_open_after(entry) {
                 return Some(at);
             }
         }
@@ -476,10 +466,10 @@ impl Handles {
     }
 
     /// What an entry names and makes.
-    pub(crate) fn naming(&self, at: usize) -> Naming {
+    pub(crate) fn naming(&self, at: usize) -> CallHandles {
         match self.namings.get(at) {
             Some(naming) => *naming,
-            None => Naming {
+            None => CallHandles {
                 first: None,
                 second: None,
                 made: 0,

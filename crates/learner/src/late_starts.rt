@@ -3,8 +3,8 @@
 use crate::calls::answer_of;
 use crate::remade::entry_copy;
 use crate::room::Room;
+use call_facts::forks;
 use records::{Entry, Event, LeftOut, Reason};
-use rights::Call;
 use texts::{Page, Say, say};
 
 /// A process, and the entry by which it went on as another program for the last time.
@@ -81,9 +81,13 @@ fn start_of(programs: &[LastProgram], process: u32) -> Option<usize> {
 
 /// The process that an entry makes, if it makes one.
 fn child_of(entry: &Entry) -> Option<u32> {
-    match &entry.event {
-        Event::Called(made) if made.call == Call::Fork => answer_of(made),
-        _ => None,
+    let Event::Called(made) = &entry.event else {
+        return None;
+    };
+    if forks(made.call) {
+        answer_of(made)
+    } else {
+        None
     }
 }
 

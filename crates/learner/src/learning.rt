@@ -1,11 +1,11 @@
 //! A task, of recorded runs.
 
-use crate::accounts::messages_of;
 use crate::codes::code_of;
 use crate::drafts::{Draft, Program};
 use crate::evidence::{add_evidence, add_links};
 use crate::late_starts::begun_late;
 use crate::merging::{Renaming, with_names_merged};
+use crate::message_counts::messages_of;
 use crate::needs::Need;
 use crate::policies::Policy;
 use crate::readings::offsets_of;

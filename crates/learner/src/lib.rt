@@ -1,7 +1,6 @@
 //! A task, of the calls of recorded runs. It is a proposal: nothing is claimed of it here.
 #![tactic(auto)]
 
-mod accounts;
 mod assembly;
 mod automata;
 mod calls;
@@ -18,6 +17,7 @@ mod late_starts;
 mod learning;
 mod libraries;
 mod merging;
+mod message_counts;
 mod names_left;
 mod needs;
 mod places;

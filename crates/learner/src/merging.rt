@@ -3,12 +3,13 @@
 use crate::assembly::is_writable;
 use crate::calls::{flags_of, path_at, path_place, place_given, removes_directory};
 use crate::learning::tree_of;
-use crate::places::{above, behind, ends_at_directory, last_name, lies_beneath};
+use crate::places::{above, ends_at_directory, last_name, lies_beneath};
 use crate::remade::entry_copy;
 use crate::room::Room;
 use crate::trees::Tree;
-use records::{Binding, Entry, Event, MadeCall, Operand, Outcome, add_flags};
-use rights::Call;
+use call_facts::sets::add_flags;
+use call_facts::{Passed, TableChange, passed_by, table_change};
+use records::{Binding, Entry, Event, MadeCall, Operand, Outcome};
 use texts::{Page, Say, parts_of, say};
 
 /// What lies at the place `real` of the records stands at the place `model` of what is learnt.
@@ -49,16 +50,6 @@ impl Name {
 #[derive(Drop)]
 struct Names {
     list: Vec<Name>,
-}
-
-/// Where the paths of a call stand among its operands.
-fn path_places(call: Call) -> &'static [usize] {
-    match (call, path_place(call)) {
-        (Call::Renameat, _) => &[1, 3],
-        (_, Some(0)) => &[0],
-        (_, Some(_)) => &[1],
-        _ => &[],
-    }
 }
 
 /// What a call does with the name of a path: the call, which of its paths that is, what it is given beside, and what it came to.
@@ -129,16 +120,18 @@ impl Names {
 
     /// Notes what a call does with the names of its paths, and through descriptors of what stands at such a name.
     fn add_call(&mut self, room: &mut Room, made: &MadeCall) {
-        for at in path_places(made.call) {
-            if let Some(Operand::Path(path)) = made.operands.get(*at) {
-                let fact = fact_of(room, made, *at);
+        for (at, operand) in made.operands.iter().enumerate() {
+            if let Operand::Path(path) = operand {
+                let fact = fact_of(room, made, at);
                 self.add_fact(room, path, fact);
             }
         }
-        match made.call {
-            Call::Read | Call::Write => self.add_through(room, made),
-            Call::Open => self.add_end(room, made),
-            _ => {}
+        match passed_by(made.call) {
+            Passed::ByteIn | Passed::ByteOut => self.add_through(room, made),
+            Passed::Nothing | Passed::DescriptorIn | Passed::DescriptorOut => {}
+        }
+        if table_change(made.call) == TableChange::Opened {
+            self.add_end(room, made);
         }
     }
 

@@ -2,9 +2,10 @@
 
 use crate::calls::{answer_of, fails_with};
 use crate::room::Room;
+use call_facts::{Passed, passed_by};
 use records::MadeCall;
+use rights::Errno;
 use rights::limits::MAX_MESSAGES;
-use rights::{Call, Errno};
 
 /// Ends whose other side the world has.
 #[derive(Clone, Copy, PartialEq, Eq)]
@@ -45,18 +46,20 @@ impl Need {
 
     /// Notes a call through the end.
     fn note(&mut self, made: &MadeCall) {
-        match (made.call, answer_of(made)) {
-            (Call::Read, Some(0)) => self.closes = true,
-            (Call::Read, Some(_)) => self.gives = true,
-            (Call::Write | Call::Sendfd, Some(_)) => {
-                self.written = self.written.saturating_add(1);
-            }
-            (Call::Write | Call::Sendfd, None) => {
-                if fails_with(made, Errno::EPIPE) {
+        match passed_by(made.call) {
+            Passed::ByteIn => match answer_of(made) {
+                Some(0) => self.closes = true,
+                Some(_) => self.gives = true,
+                None => {}
+            },
+            Passed::ByteOut | Passed::DescriptorOut => {
+                if answer_of(made).is_some() {
+                    self.written = self.written.saturating_add(1);
+                } else if fails_with(made, Errno::EPIPE) {
                     self.closes = true;
                 }
             }
-            _ => {}
+            Passed::DescriptorIn | Passed::Nothing => {}
         }
     }
 }

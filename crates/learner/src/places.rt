@@ -1,6 +1,7 @@
 //! Places of a tree as texts: `/`, or names with a slash in front of each.
 
 use crate::room::Room;
+use file_tree::rest_beneath;
 use texts::first_part;
 
 /// The place above another one; of `/` it is `/`.
@@ -28,23 +29,9 @@ pub(crate) fn ends_at_directory(path: &[u8]) -> bool {
     matches!(last_name(path), [] | [b'.'] | [b'.', b'.'])
 }
 
-/// What stands behind a place in one beneath it, with its slash, or nothing where it is the place itself.
-pub(crate) fn behind<'a>(place: &[u8], beneath: &'a [u8]) -> Option<&'a [u8]> {
-    match beneath.strip_prefix(place) {
-        Some(rest) => {
-            if rest.is_empty() || rest.first() == Some(&b'/') {
-                Some(rest)
-            } else {
-                None
-            }
-        }
-        None => None,
-    }
-}
-
 /// Whether a place lies beneath the first one.
 pub(crate) fn lies_beneath(place: &[u8], beneath: &[u8]) -> bool {
-    match behind(place, beneath) {
+    match rest_beneath(place, beneath) {
         Some(rest) => !rest.is_empty(),
         None => false,
     }
@@ -57,7 +44,7 @@ pub(crate) fn path_from<'a>(directory: &[u8], place: &'a [u8]) -> Option<&'a [u8
     } else {
         directory
     };
-    let rest = behind(whole, place)?;
+    let rest = rest_beneath(whole, place)?;
     Some(rest.strip_prefix(b"/".as_slice()).unwrap_or(rest))
 }
 

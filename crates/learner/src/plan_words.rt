@@ -1,12 +1,14 @@
 //! A plan in words, as comments in front of its task.
 
-use crate::demands::{Demand, Limit, RIGHTS};
+use crate::demands::{Demand, Limit};
 use crate::fates::standard_rights;
 use crate::further::FurtherRights;
 use crate::handles::Handle;
 use crate::policies::{Account, Ground, Policy};
 use crate::room::Room;
 use crate::trees::Tree;
+use bitflags::Flags;
+use call_facts::sets::{add_commands, add_rights};
 use records::Entry;
 use rights::{Fcntls, Rights};
 use texts::{Page, Say, say};
@@ -61,10 +63,9 @@ fn add_names(page: &mut Page, begin: usize, beginning: &str, names: &[u8]) {
 /// The names of what is asked, each behind a comma.
 fn names_of(room: &mut Room, rights: Rights, further: FurtherRights) -> Vec<u8> {
     let mut names = Page::new(room.alloc());
-    for right in RIGHTS {
-        if rights.contains(right) {
-            say!(&mut names; ",", right);
-        }
+    if rights != Rights::empty() {
+        names.bytes(b",");
+        add_rights(&mut names, rights);
     }
     further.add_names(&mut names);
     room.bytes(names)
@@ -73,10 +74,9 @@ fn names_of(room: &mut Room, rights: Rights, further: FurtherRights) -> Vec<u8> 
 /// The names of commands, each behind a comma.
 fn command_names(room: &mut Room, commands: Fcntls) -> Vec<u8> {
     let mut names = Page::new(room.alloc());
-    for command in [Fcntls::GETFL, Fcntls::SETFL] {
-        if commands.contains(command) {
-            say!(&mut names; ",", command);
-        }
+    if commands != Fcntls::empty() {
+        names.bytes(b",");
+        add_commands(&mut names, commands);
     }
     room.bytes(names)
 }
@@ -142,12 +142,7 @@ impl<'a> Words<'a> {
 
     /// Adds what an input, an output or errors have to keep beside what caph_limit_stdio(3) leaves, if it is anything.
     fn add_standard(&self, room: &mut Room, page: &mut Page, account: &Account, limit: &Limit) {
-        let mut beyond = Rights::empty();
-        for right in RIGHTS {
-            if limit.demand.rights.contains(right) && !standard_rights().contains(right) {
-                beyond = beyond.union(right);
-            }
-        }
+        let beyond = Flags::difference(limit.demand.rights, standard_rights());
         let further = limit.demand.further.beyond_standard();
         if beyond == Rights::empty() && further.is_empty() {
             return;

@@ -1,7 +1,7 @@
 //! The policy of a plan: the directories beneath which its programs work in the mode.
 
 use crate::assembly::is_writable;
-use crate::calls::{changes_names, path_place};
+use crate::calls::{changes_names, opens};
 use crate::demands::{Demand, Demands, Way, goes_anywhere, way_in_mode};
 use crate::entrances::Entrances;
 use crate::evidence::place_in;
@@ -11,7 +11,7 @@ use crate::room::Room;
 use crate::trees::{Presence, Tree};
 use records::{Entry, Event, MadeCall};
 use rights::limits::MAX_GRANTS;
-use rights::{Call, Op, Rights};
+use rights::{Op, Rights, operations_of_rights};
 use texts::{Page, Say, parts_of};
 
 /// A directory of the policy.
@@ -43,29 +43,18 @@ pub(crate) struct Account {
 /// How long a grant's name is made of a directory's at most; a number may stand behind it.
 const MOST_OF_NAME: usize = 13;
 
-/// Operations, and the rights that are for them.
-const OPERATIONS: [(Op, Rights, Rights, Rights); 5] = [
-    (Op::Look, Rights::FSTAT, Rights::FSTATAT, Rights::FSTATAT),
-    (Op::Read, Rights::READ, Rights::READ, Rights::READ),
-    (
-        Op::Write,
-        Rights::WRITE,
-        Rights::FTRUNCATE,
-        Rights::FTRUNCATE,
-    ),
-    (
-        Op::Create,
-        Rights::CREATE,
-        Rights::MKDIRAT,
-        Rights::RENAMEAT_TARGET,
-    ),
-    (
-        Op::Remove,
-        Rights::UNLINKAT,
-        Rights::RENAMEAT_SOURCE,
-        Rights::RENAMEAT_SOURCE,
-    ),
-];
+/// The operations of a policy.
+const OPERATIONS: [Op; 5] = [Op::Look, Op::Read, Op::Write, Op::Create, Op::Remove];
+
+/// Whether one of some rights is for an operation.
+fn are_for(rights: Rights, operation: Op) -> bool {
+    for own in operations_of_rights() {
+        if own.operation == operation && rights.contains(own.right) {
+            return true;
+        }
+    }
+    false
+}
 
 /// The nearest directory at or above a place that is there from the start.
 fn directory_at<'a>(tree: &Tree, place: &'a [u8]) -> &'a [u8] {
@@ -93,9 +82,8 @@ impl Account {
         if is_known && !goes_anywhere(room, tree, &self.handles, made, &naming) {
             return Way::Kept;
         }
-        let opens = matches!(made.call, Call::Open | Call::Openat)
-            && self.demands.made_by(&naming).lies_in_grant();
-        if opens || changes_names(made) {
+        let opens_beneath = opens(made.call) && self.demands.made_by(&naming).lies_in_grant();
+        if opens_beneath || changes_names(made) {
             Way::Beneath
         } else {
             Way::Kept
@@ -107,9 +95,8 @@ impl Ground {
     /// The operations that the rights in the mode are for.
     pub(crate) fn operations(&self, room: &mut Room) -> Vec<Op> {
         let mut operations = room.list();
-        for (operation, first, second, third) in OPERATIONS {
-            let rights = first.union(second).union(third);
-            if self.rights.intersection(rights) != Rights::empty() {
+        for operation in OPERATIONS {
+            if are_for(self.rights, operation) {
                 room.push(&mut operations, operation);
             }
         }
@@ -209,7 +196,7 @@ impl Policy {
     /// Adds the directories of the paths of a call.
     fn add_call(&mut self, room: &mut Room, tree: &Tree, made: &MadeCall) {
         let changes = changes_names(made);
-        for at in [path_place(made.call).unwrap_or(0), 3] {
+        for at in 0..made.operands.len() {
             if let Some(place) = place_in(room, tree, made, at) {
                 self.add_way(room, tree, &place, changes);
             }
@@ -264,7 +251,7 @@ impl Policy {
 
     /// Notes what a call asks of the directories of its paths.
     fn ask_call(&mut self, room: &mut Room, tree: &Tree, made: &MadeCall, demand: Demand) {
-        for at in [path_place(made.call).unwrap_or(0), 3] {
+        for at in 0..made.operands.len() {
             if let Some(place) = place_in(room, tree, made, at) {
                 self.ask(&place, demand);
             }

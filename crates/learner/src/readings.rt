@@ -5,8 +5,8 @@ use crate::room::Room;
 use crate::starts::first_table;
 use crate::tables::{Holding, Table};
 use crate::trees::Tree;
+use call_facts::{Answer, Passed, TableChange, passed_by, table_change};
 use records::{Entry, Event, MadeCall};
-use rights::Call;
 
 /// How far a file was read: in the record's bytes, and in reads, which are the task's bytes.
 #[derive(Clone, Copy)]
@@ -211,33 +211,51 @@ impl Readings {
         process: u32,
         answer: u32,
     ) -> u32 {
-        match made.call {
-            Call::Open | Call::Openat | Call::Recvfd => {
+        match table_change(made.call) {
+            TableChange::Opened | TableChange::Inherited | TableChange::Received => {
                 self.open(room, tree, made, process, answer);
+                0
             }
-            Call::Dup => {
+            TableChange::Copied => {
                 if let Some(reading) = self.own(room, tree, made, process) {
                     self.bind(room, process, answer, reading);
                 }
+                0
             }
-            Call::Close => self.close(process, number_at(made, 0).unwrap_or(answer)),
-            Call::Fork => self.fork(room, process, answer),
-            Call::Read => {
-                if let Some(reading) = self.own(room, tree, made, process) {
-                    self.read(room, tree, reading, answer);
-                }
+            TableChange::Freed => {
+                self.close(process, number_at(made, 0).unwrap_or(answer));
+                0
             }
-            Call::Write => {
-                if let Some(reading) = self.own(room, tree, made, process) {
-                    self.write(room, reading, answer);
-                }
+            TableChange::Child => {
+                self.fork(room, process, answer);
+                0
             }
-            Call::Lseek => {
-                if let Some(reading) = self.own(room, tree, made, process) {
-                    return self.seek(reading, answer);
-                }
-            }
-            _ => {}
+            TableChange::Pair | TableChange::Limited => 0,
+            TableChange::Unchanged => self.go_on(room, tree, made, process, answer),
+        }
+    }
+
+    /// Notes a call that reads, writes or seeks, if it is one, with this answer. The offset to which it goes in the task is told, or 0.
+    fn go_on(
+        &mut self,
+        room: &mut Room,
+        tree: &mut Tree,
+        made: &MadeCall,
+        process: u32,
+        answer: u32,
+    ) -> u32 {
+        let (passed, gives) = (passed_by(made.call), call_facts::answer_of(made.call));
+        if passed == Passed::Nothing && gives != Answer::Offset {
+            return 0;
+        }
+        let Some(reading) = self.own(room, tree, made, process) else {
+            return 0;
+        };
+        match passed {
+            Passed::ByteIn => self.read(room, tree, reading, answer),
+            Passed::ByteOut => self.write(room, reading, answer),
+            Passed::Nothing => return self.seek(reading, answer),
+            Passed::DescriptorIn | Passed::DescriptorOut => {}
         }
         0
     }

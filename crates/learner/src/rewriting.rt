@@ -1,13 +1,14 @@
 //! A record as its program would have made it by a plan: with the mode, limits in front of it, and names beneath directories.
 
-use crate::calls::{number_at, path_place};
-use crate::demands::{Limit, Way, beneath};
+use crate::calls::{number_at, path_of, path_place, wants_node};
+use crate::demands::{Limit, Way};
 use crate::evidence::{lists_directory, place_in};
 use crate::places::path_from;
 use crate::policies::{Account, Policy};
 use crate::remade::{Remade, add_bindings, add_place, call_copy, left_out_copy, plain_call};
 use crate::room::Room;
 use crate::trees::Tree;
+use call_facts::{TableChange, beneath, table_change};
 use records::{Entry, Event, MadeCall, Operand};
 use rights::Call;
 
@@ -33,11 +34,6 @@ pub(crate) struct Rewriting<'a> {
 struct Aim {
     ground: usize,
     path: Vec<u8>,
-}
-
-/// Whether a call asks for a file.
-fn wants_file(call: Call) -> bool {
-    matches!(call, Call::Lseek | Call::Ftruncate | Call::Fsync)
 }
 
 /// The number of a directory of the policy, of those from this one on.
@@ -124,17 +120,18 @@ impl<'a> Rewriting<'a> {
 
     /// Whether an open names a directory of the policy itself.
     fn names_directory(&self, made: &MadeCall) -> bool {
-        match made.operands.first() {
-            Some(Operand::Path(path)) if made.call == Call::Open => {
-                for ground in &self.policy.grounds {
-                    if ground.place == *path {
-                        return true;
-                    }
-                }
-                false
-            }
-            _ => false,
+        if table_change(made.call) != TableChange::Opened {
+            return false;
         }
+        let Some(path) = path_of(made) else {
+            return false;
+        };
+        for ground in &self.policy.grounds {
+            if ground.place.as_slice() == path {
+                return true;
+            }
+        }
+        false
     }
 
     /// Adds that a directory of the policy is opened for one call.
@@ -303,7 +300,7 @@ impl<'a> Rewriting<'a> {
             self.leave_out_copies(at);
         }
         let standard = self.standard(made, at);
-        if standard.is_some() && wants_file(made.call) {
+        if standard.is_some() && wants_node(made.call) {
             return;
         }
         match account.way_of(room, self.tree, made, at) {

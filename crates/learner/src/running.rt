@@ -10,6 +10,7 @@ use crate::needs::{Ends, Need, add_connection, add_need};
 use crate::room::Room;
 use crate::tables::{Holding, Table};
 use crate::trees::Tree;
+use call_facts::{TableChange, table_change};
 use records::{Entry, Event, MadeCall};
 use rights::{Call, Side};
 use texts::{Page, Say, parts_of, say};
@@ -220,22 +221,22 @@ impl Running {
         answer: u32,
     ) -> bool {
         let given = number_at(made, 0).unwrap_or(answer);
-        match made.call {
-            Call::Open | Call::Openat => {
+        match table_change(made.call) {
+            TableChange::Opened | TableChange::Inherited => {
                 let holding = holding_of(room, course.tree, made, answer);
                 return self.take(room, answer, holding);
             }
-            Call::Recvfd => {
+            TableChange::Received => {
                 let holding = self.received(room, course, accepted, made, answer);
                 return self.take(room, answer, holding);
             }
-            Call::Dup => return self.take_copy(room, given, answer),
-            Call::Socketpair => return self.take_pair(room, made, answer),
-            Call::Close => self.table.close(given),
-            Call::CapRightsLimit | Call::CapFcntlsLimit => self.table.limit(room, given, text),
-            Call::CapEnter => self.in_mode = true,
-            _ => {}
+            TableChange::Copied => return self.take_copy(room, given, answer),
+            TableChange::Pair => return self.take_pair(room, made, answer),
+            TableChange::Freed => self.table.close(given),
+            TableChange::Limited => self.table.limit(room, given, text),
+            TableChange::Child | TableChange::Unchanged => {}
         }
+        self.in_mode = self.in_mode || made.call == Call::CapEnter;
         true
     }
 }

@@ -1,7 +1,7 @@
 //! What the first processes of a record begin with.
 
 use crate::assembly::is_writable;
-use crate::calls::{answer_of, makes_descriptor, number_at, place_of};
+use crate::calls::{answer_of, makes_descriptor, number_at, place_of, wants_node};
 use crate::room::Room;
 use crate::tables::{Holding, Table};
 use crate::trees::Tree;
@@ -38,7 +38,7 @@ fn number_of(binding: &Binding) -> u32 {
 
 /// Whether a call shows that its first descriptor is of a file.
 fn is_of_file(made: &MadeCall) -> bool {
-    matches!(made.call, Call::Lseek | Call::Ftruncate | Call::Fsync) && answer_of(made).is_some()
+    wants_node(made.call) && answer_of(made).is_some()
 }
 
 /// What a descriptor is of that a call names.
@@ -133,7 +133,7 @@ impl Beginning {
     }
 
     /// Where a process has at a number what the first one began with, if it has it there.
-    fn place_of(&self, process: u32, number: u32) -> Option<usize> {
+    fn index_of(&self, process: u32, number: u32) -> Option<usize> {
         for (at, own) in self.inherited.iter().enumerate() {
             if own.process == process && own.number == number {
                 return Some(at);
@@ -153,7 +153,7 @@ impl Beginning {
         let Some(number) = number_at(made, 0) else {
             return;
         };
-        let Some(at) = self.place_of(process, number) else {
+        let Some(at) = self.index_of(process, number) else {
             return;
         };
         let Some(own) = self.inherited.get(at).copied() else {

@@ -1,8 +1,9 @@
 //! The tree that a record's calls tell of.
 
 use crate::assembly::is_writable;
-use crate::places::{above, behind, joined, lies_beneath, place_at};
+use crate::places::{above, joined, lies_beneath, place_at};
 use crate::room::Room;
+use file_tree::rest_beneath;
 
 /// What stands at a place.
 #[derive(Clone, Copy, PartialEq, Eq)]
@@ -33,7 +34,7 @@ pub(crate) struct Link {
 
 /// What another process than the record's did with the tree.
 #[derive(Clone, Copy, PartialEq, Eq)]
-pub(crate) enum Deed {
+pub(crate) enum WorldAction {
     MakesFile,
     MakesDirectory,
     RemovesFile,
@@ -45,7 +46,7 @@ pub(crate) enum Deed {
 /// That, and where; what is moved, also to where.
 #[derive(Drop)]
 pub(crate) struct Change {
-    pub deed: Deed,
+    pub deed: WorldAction,
     pub place: Vec<u8>,
     pub target: Vec<u8>,
 }
@@ -59,18 +60,18 @@ pub(crate) struct Tree {
 }
 
 /// What is made where something appears.
-fn making(presence: Presence) -> Deed {
+fn making(presence: Presence) -> WorldAction {
     match presence {
-        Presence::Directory => Deed::MakesDirectory,
-        Presence::File | Presence::Absent => Deed::MakesFile,
+        Presence::Directory => WorldAction::MakesDirectory,
+        Presence::File | Presence::Absent => WorldAction::MakesFile,
     }
 }
 
 /// What is removed where nothing is left.
-fn removing(presence: Presence) -> Deed {
+fn removing(presence: Presence) -> WorldAction {
     match presence {
-        Presence::Directory => Deed::RemovesDirectory,
-        Presence::File | Presence::Absent => Deed::RemovesFile,
+        Presence::Directory => WorldAction::RemovesDirectory,
+        Presence::File | Presence::Absent => WorldAction::RemovesFile,
     }
 }
 
@@ -102,7 +103,7 @@ impl Tree {
     /// Whether the world moves something.
     pub(crate) fn moves_something(&self) -> bool {
         for change in &self.changes {
-            if change.deed == Deed::Moves {
+            if change.deed == WorldAction::Moves {
                 return true;
             }
         }
@@ -219,12 +220,12 @@ impl Tree {
     }
 
     /// Notes what another process did.
-    fn change(&mut self, room: &mut Room, deed: Deed, place: &[u8]) {
+    fn change(&mut self, room: &mut Room, deed: WorldAction, place: &[u8]) {
         self.change_to(room, deed, place, b"");
     }
 
     /// Notes what another process did, by two places.
-    fn change_to(&mut self, room: &mut Room, deed: Deed, place: &[u8], target: &[u8]) {
+    fn change_to(&mut self, room: &mut Room, deed: WorldAction, place: &[u8], target: &[u8]) {
         for change in &self.changes {
             if change.deed == deed
                 && change.place.as_slice() == place
@@ -255,7 +256,7 @@ impl Tree {
             return self.absent(room, from);
         }
         self.moved(room, from, to);
-        self.change_to(room, Deed::Moves, from, to);
+        self.change_to(room, WorldAction::Moves, from, to);
     }
 
     /// Whether a name was looked for beneath a place.
@@ -416,7 +417,7 @@ impl Tree {
     fn beneath(&self, room: &mut Room, place: &[u8]) -> Vec<Node> {
         let mut found = room.list();
         for node in &self.nodes {
-            if let Some(rest) = behind(place, &node.place) {
+            if let Some(rest) = rest_beneath(place, &node.place) {
                 let rest = room.copy(rest);
                 room.push(
                     &mut found,
@@ -459,7 +460,7 @@ impl Tree {
     /// Where a link leads that stands at a place or above it.
     fn by_link(&self, room: &mut Room, place: &[u8]) -> Option<Vec<u8>> {
         for link in &self.links {
-            if let Some(rest) = behind(&link.place, place) {
+            if let Some(rest) = rest_beneath(&link.place, place) {
                 return Some(joined(room, &link.target, rest));
             }
         }

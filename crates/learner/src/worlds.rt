@@ -3,7 +3,7 @@
 use crate::needs::Need;
 use crate::places::path_from;
 use crate::room::Room;
-use crate::trees::{Change, Deed, Tree};
+use crate::trees::{Change, Tree, WorldAction};
 use texts::{Page, Say, parts_of, say};
 
 /// An end that the world has, by its number there, what is asked of it, and what of the connections that go through it.
@@ -193,23 +193,23 @@ fn add_change(
 ) {
     let place = change.place.as_slice();
     match change.deed {
-        Deed::MakesFile => {
+        WorldAction::MakesFile => {
             let call = footing.call(room, "open", place);
             add_making(page, acts, &call, tree.length_of(place));
         }
-        Deed::MakesDirectory => {
+        WorldAction::MakesDirectory => {
             let call = footing.call(room, "mkdir", place);
             add_act(page, acts, parts_of!(call.as_slice(), " else next\n"));
         }
-        Deed::RemovesFile => {
+        WorldAction::RemovesFile => {
             let call = footing.call(room, "unlink", place);
             add_act(page, acts, parts_of!(call.as_slice(), " else next\n"));
         }
-        Deed::RemovesDirectory => {
+        WorldAction::RemovesDirectory => {
             let call = footing.call(room, "unlink", place);
             add_act(page, acts, parts_of!(call.as_slice(), " dir else next\n"));
         }
-        Deed::Moves => {
+        WorldAction::Moves => {
             let call = footing.moving(room, place, &change.target);
             add_act(page, acts, parts_of!(call.as_slice(), " else next\n"));
         }

@@ -31,7 +31,7 @@ fn step_y(step: usize) -> u32 {
 }
 
 /// Where a lane is at a step.
-fn place_of(lane: usize, step: usize) -> Point {
+fn point_at(lane: usize, step: usize) -> Point {
     Point {
         x: lane_x(lane),
         y: step_y(step),
@@ -111,7 +111,7 @@ fn add_message(html: &mut Html, from: Point, to: Point, is_descriptor: bool) {
 
 /// Adds what a step draws beside its lanes: the process that it makes, and the message that it takes.
 fn add_links(html: &mut Html, run: &Run, at: usize, step: &Step) {
-    let own = place_of(step.lane, at);
+    let own = point_at(step.lane, at);
     if let Some(child) = step.forks {
         let (class, end) = (Markup(line_class(step.is_inside)), Number(lane_x(child)));
         html.fill(
@@ -124,7 +124,7 @@ fn add_links(html: &mut Html, run: &Run, at: usize, step: &Step) {
     };
     if let Some(sender) = run.steps.get(message.sent_at) {
         if sender.lane != step.lane {
-            let from = place_of(sender.lane, message.sent_at);
+            let from = point_at(sender.lane, message.sent_at);
             add_message(html, from, own, message.is_descriptor)
         }
     }

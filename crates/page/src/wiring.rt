@@ -10,7 +10,7 @@ use crate::wires::{Point, Ways, Wire};
 use std::alloc::{AllocError, Global};
 
 /// Where a panel stands among those that are placed.
-fn place_of(placed: &[Placed], panel: usize) -> Option<usize>
+fn index_of(placed: &[Placed], panel: usize) -> Option<usize>
     ensures { IfSome result (λ place. StandsAmong placed.now place panel) }
 {
     for (at, place) in placed.iter().enumerate() {
@@ -50,7 +50,7 @@ fn panel_wire(ways: &Ways<'_>, row: usize, tone: Tone) -> Option<Wire>
     let Some((Target::Panel(panel), y)) = row_of(ways, row) else {
         return None;
     };
-    let Some(place) = place_of(ways.placed, panel) else {
+    let Some(place) = index_of(ways.placed, panel) else {
         return None;
     };
     let (Some(arrives), Some(lane)) = (ways.arrivals.items.get(place), ways.lanes.panel_x(place))

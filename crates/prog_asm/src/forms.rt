@@ -267,7 +267,28 @@ impl<'w, 't> Words<'w, 't> {
                 target: self.operand()?,
                 new_path: self.path()?,
             },
-            _ => return Err(Mistake::Wrong),
+            Call::Open
+            | Call::Read
+            | Call::Write
+            | Call::Sendfd
+            | Call::Recvfd
+            | Call::Lseek
+            | Call::Ftruncate
+            | Call::Fsync
+            | Call::Fstat
+            | Call::FcntlGetfl
+            | Call::FcntlSetfl
+            | Call::Stat
+            | Call::Mkdir
+            | Call::Unlink
+            | Call::Dup
+            | Call::Close
+            | Call::CapRightsLimit
+            | Call::CapFcntlsLimit
+            | Call::CapEnter
+            | Call::CapGetmode
+            | Call::Socketpair
+            | Call::Fork => return Err(Mistake::Wrong),
         })
     }
 
@@ -304,7 +325,28 @@ impl<'w, 't> Words<'w, 't> {
                 descriptor,
                 flags: operand,
             },
-            _ => return Err(Mistake::Wrong),
+            Call::Open
+            | Call::Openat
+            | Call::Read
+            | Call::Recvfd
+            | Call::Fsync
+            | Call::Fstat
+            | Call::FcntlGetfl
+            | Call::Fstatat
+            | Call::Stat
+            | Call::Mkdirat
+            | Call::Mkdir
+            | Call::Unlinkat
+            | Call::Unlink
+            | Call::Renameat
+            | Call::Dup
+            | Call::Close
+            | Call::CapRightsLimit
+            | Call::CapFcntlsLimit
+            | Call::CapEnter
+            | Call::CapGetmode
+            | Call::Socketpair
+            | Call::Fork => return Err(Mistake::Wrong),
         })
     }
 
@@ -334,7 +376,19 @@ impl<'w, 't> Words<'w, 't> {
                 let operand = self.operand()?;
                 return self.operand_call(call, descriptor, operand);
             }
-            _ => {
+            Call::Open
+            | Call::Openat
+            | Call::Fstatat
+            | Call::Stat
+            | Call::Mkdirat
+            | Call::Mkdir
+            | Call::Unlinkat
+            | Call::Unlink
+            | Call::Renameat
+            | Call::CapEnter
+            | Call::CapGetmode
+            | Call::Socketpair
+            | Call::Fork => {
                 let path = self.path()?;
                 return self.at_call(call, descriptor, path);
             }
@@ -356,7 +410,29 @@ impl<'w, 't> Words<'w, 't> {
                 path,
                 directory: self.directory(),
             },
-            _ => return Err(Mistake::Wrong),
+            Call::Openat
+            | Call::Read
+            | Call::Write
+            | Call::Sendfd
+            | Call::Recvfd
+            | Call::Lseek
+            | Call::Ftruncate
+            | Call::Fsync
+            | Call::Fstat
+            | Call::FcntlGetfl
+            | Call::FcntlSetfl
+            | Call::Fstatat
+            | Call::Mkdirat
+            | Call::Unlinkat
+            | Call::Renameat
+            | Call::Dup
+            | Call::Close
+            | Call::CapRightsLimit
+            | Call::CapFcntlsLimit
+            | Call::CapEnter
+            | Call::CapGetmode
+            | Call::Socketpair
+            | Call::Fork => return Err(Mistake::Wrong),
         })
     }
 
@@ -374,7 +450,25 @@ impl<'w, 't> Words<'w, 't> {
                 let path = self.path()?;
                 self.path_call(call, path)
             }
-            _ => {
+            Call::Openat
+            | Call::Read
+            | Call::Write
+            | Call::Sendfd
+            | Call::Recvfd
+            | Call::Lseek
+            | Call::Ftruncate
+            | Call::Fsync
+            | Call::Fstat
+            | Call::FcntlGetfl
+            | Call::FcntlSetfl
+            | Call::Fstatat
+            | Call::Mkdirat
+            | Call::Unlinkat
+            | Call::Renameat
+            | Call::Dup
+            | Call::Close
+            | Call::CapRightsLimit
+            | Call::CapFcntlsLimit => {
                 let descriptor = self.operand()?;
                 self.descriptor_call(call, descriptor)
             }

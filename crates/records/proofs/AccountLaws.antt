@@ -3,7 +3,7 @@ use Rattle.std.proofs.Common.{◌≡◌, ℕ, ◌+◌, Bool, true, false, List, 
 use Rattle.std.specs.Prelude.{◌==◌, ◌&&◌, ◌||◌}
 use Rattle.std.proofs.Math.Bool.{not}
 use Rattle.std.proofs.lemmas.Grind.{common_steps}
-use Rattle.records.specs.Accounts.{is_line_of}
+use Rattle.records.specs.LineAccounts.{is_line_of}
 
 -- behind a line that isn't marked, which is listed
 pub unmarked-line : (i line : ℕ) (marks : List Bool) → get_or marks (i + 1) false ≡ false

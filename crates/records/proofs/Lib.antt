@@ -1,11 +1,8 @@
-pub mod Same
-pub mod SetLaws
 pub mod LineLaws
 pub mod LoopLaws
 pub mod OneSpelling
 pub mod QuotedLaws
 pub mod NameLaws
-pub mod FlagLaws
 pub mod WordsBack
 pub mod LineBack
 pub mod TextBack

@@ -20,11 +20,11 @@ use Rattle.records.specs.Calls.{is_made, is_of_kind, is_outcome, is_real_number,
 use Rattle.records.specs.Named.{call_of_word, error_of_word, reason_of_word}
 use Rattle.records.specs.Quoted.{QuoteProgress, Before, Within, Escaped, Lettered, Halfway, Behind, QuoteEffect, Leads}
 use Rattle.records.specs.Quoted.{Gives, Stops, effect, given_byte, going, is_plain, unquoted, unquoted_from}
-use Rattle.records.specs.Sets.{Row, bits_named, command_rows, flag_rows, has_word, request_of_set, request_of_word, right_rows, set_of_list}
+use Rattle.call_facts.specs.Sets.{Row, bits_named, command_rows, flag_rows, has_word, request_of_set, request_of_word, right_rows, set_of_list}
 use Rattle.records.specs.Readings.{◌>>=◌, Words, WordField, Awaited, Next, What, Pair, Side, Amount, Nothing}
 use Rattle.records.specs.Readings.{BindingStep, Awaits, Binds, Refuses, Bindings, after_step, and_entry, binding_step, bindings_from, bindings_of, bound}
-use Rattle.records.specs.Readings.{Counts, Form, NoEnd, calls_behind, calls_of_lines, calls_of_text, choice_at, descriptor_of_word, end_side_of_word}
-use Rattle.records.specs.Readings.{ends_behind, entry_of_text, entry_of_words, faulty, if_text, is_counts_line, left_out_of, made_of, one_word_at}
+use Rattle.records.specs.Readings.{Counts, Form, NoEnd, calls_after, calls_of_lines, calls_of_text, choice_at, descriptor_of_word, end_side_of_word}
+use Rattle.records.specs.Readings.{ends_after, entry_of_text, entry_of_words, faulty, if_text, is_counts_line, left_out_of, made_of, one_word_at}
 use Rattle.records.specs.Readings.{operands_at, operands_from, outcome_at, read_last, read_number, read_word}
 use Rattle.records.specs.Readings.{real_number_at, real_operand_at, record_span_at, recorded_event_of, step_with, wanted_of, with_no_more}
 use Rattle.records.specs.Readings as mistakes
@@ -413,7 +413,7 @@ line-fits text e is =
     go f true ok is = ap is_entry (sym (some-is is)) ∙ ok
     go f false ok is = absurd cc
 
-ended-fits : (calls d : RecordedCalls) (number : ℕ) (lines : List TextLine) → are_calls calls ≡ true → ends_behind calls number lines ≡ Ok d → are_calls d ≡ true
+ended-fits : (calls d : RecordedCalls) (number : ℕ) (lines : List TextLine) → are_calls calls ≡ true → ends_after calls number lines ≡ Ok d → are_calls d ≡ true
 ended-fits calls d number [] are is = let same : calls ≡ d = cc in ap are_calls (sym same) ∙ are
 ended-fits calls d number (line ∷ []) are is = go (bytes_eq line.text []) is
   where
@@ -422,8 +422,8 @@ ended-fits calls d number (line ∷ []) are is = go (bytes_eq line.text []) is
     go false is = absurd cc
 ended-fits calls d number (line ∷ next ∷ lines) are is = absurd cc
 
-lines-fit : (lines : List TextLine) (number : ℕ) (calls d : RecordedCalls) → are_calls calls ≡ true → calls_behind lines number calls ≡ Ok d → are_calls d ≡ true
-unfolding calls_behind read_last
+lines-fit : (lines : List TextLine) (number : ℕ) (calls d : RecordedCalls) → are_calls calls ≡ true → calls_after lines number calls ≡ Ok d → are_calls d ≡ true
+unfolding calls_after read_last
 lines-fit [] number calls d are is = absurd cc
 lines-fit (line ∷ lines) number calls d are is =
     go line.is_ended (is_counts_line line.text) (bytes_eq line.text []) (bytes_eq (counts_line calls) line.text) (entry_of_text line.text) refl
@@ -433,8 +433,8 @@ lines-fit (line ∷ lines) number calls d are is =
     more e fits = list_all-append is_entry calls (e ∷ []) ∙ and_from (are_calls calls) (is_entry e && true) are (and_from (is_entry e) true fits refl)
 
     go : (whole last empty same : Bool) (read : Option RecordEntry) → entry_of_text line.text ≡ read
-        → ((e : RecordEntry) → is_entry e ≡ true → calls_behind lines (number + 1) (calls ++ e ∷ []) ≡ Ok d → are_calls d ≡ true)
-        → cond whole (cond last (cond same (ends_behind calls (number + 1) lines) (faulty Counts (number + 1))) (and_entry calls (number + 1) (calls_behind lines (number + 1)) read))
+        → ((e : RecordEntry) → is_entry e ≡ true → calls_after lines (number + 1) (calls ++ e ∷ []) ≡ Ok d → are_calls d ≡ true)
+        → cond whole (cond last (cond same (ends_after calls (number + 1) lines) (faulty Counts (number + 1))) (and_entry calls (number + 1) (calls_after lines (number + 1)) read))
         (cond empty (faulty NoEnd (number + 1)) (faulty Form (number + 1))) ≡ Ok d → are_calls d ≡ true
     go true true empty true read one rest is = ended-fits calls d (number + 1) lines are is
     go true true empty false read one rest is = absurd cc
@@ -443,7 +443,7 @@ lines-fit (line ∷ lines) number calls d are is =
     go false last true same read one rest is = absurd cc
     go false last false same read one rest is = absurd cc
 
-first-fits : (first : Bool) (lines : List TextLine) (d : RecordedCalls) → cond first (calls_behind lines 1 []) (faulty Form 1) ≡ Ok d → are_calls d ≡ true
+first-fits : (first : Bool) (lines : List TextLine) (d : RecordedCalls) → cond first (calls_after lines 1 []) (faulty Form 1) ≡ Ok d → are_calls d ≡ true
 first-fits true lines d is = lines-fit lines 1 [] d refl is
 first-fits false lines d is = absurd cc
 

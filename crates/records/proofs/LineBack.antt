@@ -18,12 +18,13 @@ use Rattle.records.specs.Calls.{Binding, Is_place, Is_end, MadeCall, WantedRight
 use Rattle.records.specs.Calls.{are_of_kinds, is_amount, is_binding, is_entry, is_event, is_made, is_real_number, is_of_kind}
 use Rattle.records.specs.Calls.{is_real_operand, is_outcome, is_span, is_text, is_wanted, is_call_name, is_call_name_byte, operand_kinds}
 use Rattle.records.specs.Named.{reason_name}
-use Rattle.records.specs.Sets.{Row, command_rows, flag_rows, flag_set, member_names, right_rows, set_word}
+use Rattle.call_facts.specs.Sets.{Row, command_rows, flag_rows, flag_set, listed, member_names, right_rows, set_word}
+use Rattle.call_facts.proofs.SetLaws.{listed-joined}
 use Rattle.records.specs.Quoted.{byte_text, is_plain, quoted}
 use Rattle.records.specs.Readings.{entry_of_text, entry_of_words, if_text, is_counts_line}
 use Rattle.records.specs.Texts.{amount_words, binding_words, entry_text, entry_words, event_words, made_words, operand_words, outcome_words, end_side_word, wanted_words}
 use Rattle.records.proofs.NameLaws.{call-dark, error-dark, is_dark, reason-dark}
-use Rattle.records.proofs.Same.{same-text, three-parts}
+use Rattle.call_facts.proofs.Same.{same-text, three-parts}
 use Rattle.records.proofs.WordsBack.{entry-back}
 
 -- WORDS ARE DARK: their bytes are above the space.
@@ -106,9 +107,10 @@ dark-joined (word ∷ next ∷ words) are =
 
 dark-set : (rows : List Row) (set : ℕ) → are_dark_rows rows ≡ true → dark (set_word rows set) ≡ true
 unfolding set_word
-dark-set rows set are = go (set == 0) (dark-joined (member_names rows set) (dark-names rows set are))
+dark-set rows set are =
+    go (set == 0) (ap dark (listed-joined (member_names rows set)) ∙ dark-joined (member_names rows set) (dark-names rows set are))
   where
-    go : (none : Bool) → dark (joined 44 (member_names rows set)) ≡ true → dark (cond none (codes "none") (joined 44 (member_names rows set))) ≡ true
+    go : (none : Bool) → dark (listed [] (member_names rows set)) ≡ true → dark (cond none (codes "none") (listed [] (member_names rows set))) ≡ true
     go true rest = refl
     go false rest = rest
 

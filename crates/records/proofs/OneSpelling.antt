@@ -9,8 +9,8 @@ use Rattle.texts.specs.Lines.{Line as TextLine, lines_from}
 use Rattle.texts.specs.Parts.{joined, parts}
 use Rattle.texts.proofs.WordLaws.{joined-parts}
 use Rattle.records.specs.Calls.{RecordEntry, RecordedCalls}
-use Rattle.records.specs.Readings.{Behind, Counts, Form, NoEnd, calls_of_text, ends_behind, entry_of_text}
-use Rattle.records.specs.Readings.{entry_of_words, faulty, and_entry, if_text, is_counts_line, calls_behind, read_last, calls_of_lines}
+use Rattle.records.specs.Readings.{Behind, Counts, Form, NoEnd, calls_of_text, ends_after, entry_of_text}
+use Rattle.records.specs.Readings.{entry_of_words, faulty, and_entry, if_text, is_counts_line, calls_after, read_last, calls_of_lines}
 use Rattle.records.specs.Texts.{calls_text, counts_line, line_with_feed, entry_text, calls_first_line}
 
 -- a line that is read as an entry is its text
@@ -38,7 +38,7 @@ body-more calls e first rest is =
     ∙ ap (λ text. body calls ++ text) (append_assoc (entry_text e) (10 ∷ []) rest ∙ ap (λ text. text ++ 10 ∷ rest) is)
 
 -- nothing stands behind the last line
-ended-is : (calls d : RecordedCalls) (number : ℕ) (next : List ℕ) (texts : List (List ℕ)) (offset : ℕ) → ends_behind calls number (lines_from offset (next ∷ texts)) ≡ Ok d
+ended-is : (calls d : RecordedCalls) (number : ℕ) (next : List ℕ) (texts : List (List ℕ)) (offset : ℕ) → ends_after calls number (lines_from offset (next ∷ texts)) ≡ Ok d
     → (next ∷ texts ≡ [] ∷ []) × (calls ≡ d)
 ended-is calls d number next [] offset is = go (bytes_eq next []) refl is
   where
@@ -54,7 +54,7 @@ last-line : (calls d : RecordedCalls) (number : ℕ) (first next : List ℕ) (te
 unfolding read_last
 last-line calls d number first next texts offset is = go (bytes_eq (counts_line calls) first) refl is
   where
-    go : (same : Bool) → bytes_eq (counts_line calls) first ≡ same → cond same (ends_behind calls number (lines_from offset (next ∷ texts))) (faulty Counts number) ≡ Ok d
+    go : (same : Bool) → bytes_eq (counts_line calls) first ≡ same → cond same (ends_after calls number (lines_from offset (next ∷ texts))) (faulty Counts number) ≡ Ok d
         → body calls ++ joined 10 (first ∷ next ∷ texts) ≡ body d ++ line_with_feed (counts_line d)
     go true same is =
         let rest = ended-is calls d number next texts offset is in
@@ -64,18 +64,18 @@ last-line calls d number first next texts offset is = go (bytes_eq (counts_line 
 
 -- an entry's line, and then the others
 next-line : (calls d : RecordedCalls) (number : ℕ) (first rest : List ℕ) (lines : List TextLine)
-    → ((e : RecordEntry) → calls_behind lines number (calls ++ e ∷ []) ≡ Ok d → body (calls ++ e ∷ []) ++ rest ≡ body d ++ line_with_feed (counts_line d))
-    → and_entry calls number (calls_behind lines number) (entry_of_text first) ≡ Ok d → body calls ++ (first ++ 10 ∷ rest) ≡ body d ++ line_with_feed (counts_line d)
+    → ((e : RecordEntry) → calls_after lines number (calls ++ e ∷ []) ≡ Ok d → body (calls ++ e ∷ []) ++ rest ≡ body d ++ line_with_feed (counts_line d))
+    → and_entry calls number (calls_after lines number) (entry_of_text first) ≡ Ok d → body calls ++ (first ++ 10 ∷ rest) ≡ body d ++ line_with_feed (counts_line d)
 next-line calls d number first rest lines more is = go (entry_of_text first) refl is
   where
-    go : (read : Option RecordEntry) → entry_of_text first ≡ read → and_entry calls number (calls_behind lines number) read ≡ Ok d
+    go : (read : Option RecordEntry) → entry_of_text first ≡ read → and_entry calls number (calls_after lines number) read ≡ Ok d
         → body calls ++ (first ++ 10 ∷ rest) ≡ body d ++ line_with_feed (counts_line d)
     go None read is = absurd cc
     go (Some e) read is = sym (body-more calls e first rest (line-text first e read)) ∙ more e is
 
-read-texts : (calls d : RecordedCalls) (number : ℕ) (first : List ℕ) (texts : List (List ℕ)) (offset : ℕ) → calls_behind (lines_from offset (first ∷ texts)) number calls ≡ Ok d
+read-texts : (calls d : RecordedCalls) (number : ℕ) (first : List ℕ) (texts : List (List ℕ)) (offset : ℕ) → calls_after (lines_from offset (first ∷ texts)) number calls ≡ Ok d
     → body calls ++ joined 10 (first ∷ texts) ≡ body d ++ line_with_feed (counts_line d)
-unfolding calls_behind
+unfolding calls_after
 read-texts calls d number first [] offset is = go (bytes_eq first []) is
   where
     go : (empty : Bool) → cond empty (faulty NoEnd (number + 1)) (faulty Form (number + 1)) ≡ Ok d
@@ -89,8 +89,8 @@ read-texts calls d number first (next ∷ texts) offset is =
     lines = lines_from (offset + length first + 1) (next ∷ texts)
 
     go : (last : Bool)
-        → ((e : RecordEntry) → calls_behind lines (number + 1) (calls ++ e ∷ []) ≡ Ok d → body (calls ++ e ∷ []) ++ joined 10 (next ∷ texts) ≡ body d ++ line_with_feed (counts_line d))
-        → cond last (read_last calls (number + 1) first lines) (and_entry calls (number + 1) (calls_behind lines (number + 1)) (entry_of_text first)) ≡ Ok d
+        → ((e : RecordEntry) → calls_after lines (number + 1) (calls ++ e ∷ []) ≡ Ok d → body (calls ++ e ∷ []) ++ joined 10 (next ∷ texts) ≡ body d ++ line_with_feed (counts_line d))
+        → cond last (read_last calls (number + 1) first lines) (and_entry calls (number + 1) (calls_after lines (number + 1)) (entry_of_text first)) ≡ Ok d
         → body calls ++ joined 10 (first ∷ next ∷ texts) ≡ body d ++ line_with_feed (counts_line d)
     go true more is = last-line calls d (number + 1) first next texts (offset + length first + 1) is
     go false more is = next-line calls d (number + 1) first (joined 10 (next ∷ texts)) lines more is
@@ -101,7 +101,7 @@ whole-text d [] is = absurd cc
 whole-text d (first ∷ []) is = absurd cc
 whole-text d (first ∷ next ∷ texts) is = go (bytes_eq first calls_first_line) refl is
   where
-    go : (same : Bool) → bytes_eq first calls_first_line ≡ same → cond same (calls_behind (lines_from (0 + length first + 1) (next ∷ texts)) 1 []) (faulty Form 1) ≡ Ok d
+    go : (same : Bool) → bytes_eq first calls_first_line ≡ same → cond same (calls_after (lines_from (0 + length first + 1) (next ∷ texts)) 1 []) (faulty Form 1) ≡ Ok d
         → calls_text d ≡ joined 10 (first ∷ next ∷ texts)
     go true same is =
         let rest = read-texts [] d 1 next texts (0 + length first + 1) is in

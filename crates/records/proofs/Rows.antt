@@ -7,8 +7,8 @@ use Rattle.records.specs.Calls.{Binding, Directory, Is_end, Is_place, RecordedCa
 use Rattle.records.specs.Named.{call_of_word, error_of_word, reason_of_word}
 use Rattle.records.specs.Quoted.{effect, quoted, unquoted}
 use Rattle.records.specs.Readings.{Form, Counts, NoEnd, Behind, bindings_of, calls_of_text, choice_at, entry_of_text, entry_of_words, recorded_event_of, faulty, left_out_of, made_of, real_number_at}
-use Rattle.records.specs.Readings.{real_operand_at, operands_at, outcome_at, calls_behind, read_last, record_span_at, binding_step, wanted_of}
-use Rattle.records.specs.Sets.{flag_set, request_of_set, request_of_word, set_of_list, set_word}
+use Rattle.records.specs.Readings.{real_operand_at, operands_at, outcome_at, calls_after, read_last, record_span_at, binding_step, wanted_of}
+use Rattle.call_facts.specs.Sets.{flag_set, request_of_set, request_of_word, set_of_list, set_word}
 use Rattle.records.specs.Texts.{calls_text, counts_line, entry_text}
 use Rattle.records.proofs.Samples.{by, ends, finds_none, finds_none_line, limits, limits_commands, makes_pair, makes_pair_line}
 use Rattle.records.proofs.Samples.{forks, maps_file, opens_file, opens_file_line, reads_bytes, reads_bytes_line, removes, takes_memory, text}
@@ -188,13 +188,13 @@ abbrev five_end : List ℕ
 five_end = codes "end calls 2 loader 0 quiet 1 global 0 right 1 unknown 0 name 0 rights 1"
 
 five-text : calls_text five ≡ text (codes "capcalls 1" ∷ (five_lines ++ five_end ∷ []))
-unfolding calls_of_text calls_behind read_last counts_line entry_of_text entry_of_words recorded_event_of left_out_of made_of real_number_at real_operand_at operands_at choice_at
+unfolding calls_of_text calls_after read_last counts_line entry_of_text entry_of_words recorded_event_of left_out_of made_of real_number_at real_operand_at operands_at choice_at
     outcome_at bindings_of binding_step record_span_at wanted_of call_of_word error_of_word reason_of_word entry_text quoted unquoted effect set_word set_of_list flag_set
     request_of_set request_of_word digits
 five-text = refl
 
 five-read : calls_of_text (text (codes "capcalls 1" ∷ (five_lines ++ five_end ∷ []))) ≡ Ok five
-unfolding calls_of_text calls_behind read_last counts_line entry_of_text entry_of_words recorded_event_of left_out_of made_of real_number_at real_operand_at operands_at choice_at
+unfolding calls_of_text calls_after read_last counts_line entry_of_text entry_of_words recorded_event_of left_out_of made_of real_number_at real_operand_at operands_at choice_at
     outcome_at bindings_of binding_step record_span_at wanted_of call_of_word error_of_word reason_of_word entry_text quoted unquoted effect set_word set_of_list flag_set
     request_of_set request_of_word digits
 five-read = refl
@@ -203,26 +203,26 @@ five-kept : are_calls five ≡ true
 five-kept = refl
 
 none-read-of : calls_of_text (text (codes "capcalls 1" ∷ codes "end calls 0 loader 0 quiet 0 global 0 right 0 unknown 0 name 0 rights 0" ∷ [])) ≡ Ok []
-unfolding calls_of_text calls_behind read_last counts_line entry_of_text entry_of_words recorded_event_of left_out_of made_of real_number_at real_operand_at operands_at choice_at
+unfolding calls_of_text calls_after read_last counts_line entry_of_text entry_of_words recorded_event_of left_out_of made_of real_number_at real_operand_at operands_at choice_at
     outcome_at bindings_of binding_step record_span_at wanted_of call_of_word error_of_word reason_of_word entry_text quoted unquoted effect set_word set_of_list flag_set
     request_of_set request_of_word digits
 none-read-of = refl
 
 -- a count that isn't that of the lines, a line that is none, and one that is missing
 other-count : calls_of_text (text (codes "capcalls 1" ∷ (five_lines ++ codes "end calls 3 loader 0 quiet 1 global 0 right 1 unknown 0 name 0 rights 1" ∷ []))) ≡ faulty Counts 7
-unfolding calls_of_text calls_behind read_last counts_line entry_of_text entry_of_words recorded_event_of left_out_of made_of real_number_at real_operand_at operands_at choice_at
+unfolding calls_of_text calls_after read_last counts_line entry_of_text entry_of_words recorded_event_of left_out_of made_of real_number_at real_operand_at operands_at choice_at
     outcome_at bindings_of binding_step record_span_at wanted_of call_of_word error_of_word reason_of_word entry_text quoted unquoted effect set_word set_of_list flag_set
     request_of_set request_of_word digits
 other-count = refl
 
 other-line : calls_of_text (text (codes "capcalls 1" ∷ codes "2 2 540 - quiet brk" ∷ codes "x" ∷ [])) ≡ faulty Form 3
-unfolding calls_of_text calls_behind read_last counts_line entry_of_text entry_of_words recorded_event_of left_out_of made_of real_number_at real_operand_at operands_at choice_at
+unfolding calls_of_text calls_after read_last counts_line entry_of_text entry_of_words recorded_event_of left_out_of made_of real_number_at real_operand_at operands_at choice_at
     outcome_at bindings_of binding_step record_span_at wanted_of call_of_word error_of_word reason_of_word entry_text quoted unquoted effect set_word set_of_list flag_set
     request_of_set request_of_word digits
 other-line = refl
 
 no-last : calls_of_text (text (codes "capcalls 1" ∷ five_lines)) ≡ faulty NoEnd 7
-unfolding calls_of_text calls_behind read_last counts_line entry_of_text entry_of_words recorded_event_of left_out_of made_of real_number_at real_operand_at operands_at choice_at
+unfolding calls_of_text calls_after read_last counts_line entry_of_text entry_of_words recorded_event_of left_out_of made_of real_number_at real_operand_at operands_at choice_at
     outcome_at bindings_of binding_step record_span_at wanted_of call_of_word error_of_word reason_of_word entry_text quoted unquoted effect set_word set_of_list flag_set
     request_of_set request_of_word digits
 no-last = refl
@@ -232,20 +232,20 @@ abbrev nothing : List (List ℕ)
 nothing = codes "capcalls 1" ∷ codes "end calls 0 loader 0 quiet 0 global 0 right 0 unknown 0 name 0 rights 0" ∷ []
 
 not-ended : calls_of_text (text (codes "capcalls 1" ∷ []) ++ codes "end calls 0 loader 0 quiet 0 global 0 right 0 unknown 0 name 0 rights 0") ≡ faulty Form 2
-unfolding calls_of_text calls_behind read_last counts_line entry_of_text entry_of_words recorded_event_of left_out_of made_of real_number_at real_operand_at operands_at choice_at
+unfolding calls_of_text calls_after read_last counts_line entry_of_text entry_of_words recorded_event_of left_out_of made_of real_number_at real_operand_at operands_at choice_at
     outcome_at bindings_of binding_step record_span_at wanted_of call_of_word error_of_word reason_of_word entry_text quoted unquoted effect set_word set_of_list flag_set
     request_of_set request_of_word digits
 not-ended = refl
 
 more-behind : (calls_of_text (text nothing ++ codes "x") ≡ faulty Behind 3) × (calls_of_text (text nothing ++ 10 ∷ []) ≡ faulty Behind 3)
-unfolding calls_of_text calls_behind read_last counts_line entry_of_text entry_of_words recorded_event_of left_out_of made_of real_number_at real_operand_at operands_at choice_at
+unfolding calls_of_text calls_after read_last counts_line entry_of_text entry_of_words recorded_event_of left_out_of made_of real_number_at real_operand_at operands_at choice_at
     outcome_at bindings_of binding_step record_span_at wanted_of call_of_word error_of_word reason_of_word entry_text quoted unquoted effect set_word set_of_list flag_set
     request_of_set request_of_word digits
 more-behind = (refl, refl)
 
 -- no first line, and another one
 no-first : (calls_of_text [] ≡ faulty Form 1) × (calls_of_text (codes "capcalls 1") ≡ faulty Form 1) × (calls_of_text (text (codes "capcalls 2" ∷ [])) ≡ faulty Form 1)
-unfolding calls_of_text calls_behind read_last counts_line entry_of_text entry_of_words recorded_event_of left_out_of made_of real_number_at real_operand_at operands_at choice_at
+unfolding calls_of_text calls_after read_last counts_line entry_of_text entry_of_words recorded_event_of left_out_of made_of real_number_at real_operand_at operands_at choice_at
     outcome_at bindings_of binding_step record_span_at wanted_of call_of_word error_of_word reason_of_word entry_text quoted unquoted effect set_word set_of_list flag_set
     request_of_set request_of_word digits
 no-first = (refl, refl, refl)

@@ -12,11 +12,11 @@ use Rattle.texts.proofs.NumberTexts.{digits-decimal}
 use Rattle.texts.proofs.WordLaws.{lacks, lacks-by, parts-more}
 use Rattle.records.specs.Calls.{RecordedCalls, RecordEntry, Reason, Loader, Quiet, Global, Right, Unknown, Name, are_calls, is_entry}
 use Rattle.records.specs.Named.{all_reasons, reason_name}
-use Rattle.records.specs.Readings.{Counts, calls_of_text, ends_behind, entry_of_text, faulty, and_entry, is_counts_line, calls_behind, read_last, calls_of_lines}
+use Rattle.records.specs.Readings.{Counts, calls_of_text, ends_after, entry_of_text, faulty, and_entry, is_counts_line, calls_after, read_last, calls_of_lines}
 use Rattle.records.specs.Texts.{calls_text, count, counted_text, counts_line, line_with_feed, entry_text, calls_first_line, has_call, is_left_out, wants_right}
 use Rattle.records.proofs.LineBack.{text-back, text-goes-on, text-lacks}
 use Rattle.records.proofs.OneSpelling.{body}
-use Rattle.records.proofs.Same.{same-text}
+use Rattle.call_facts.proofs.Same.{same-text}
 
 -- LINES
 
@@ -95,42 +95,42 @@ end-last : (calls : RecordedCalls) → is_counts_line (counts_line calls) ≡ tr
 unfolding counts_line
 end-last calls = refl
 
-at-end : (calls : RecordedCalls) (offset number : ℕ) → calls_behind (lines_from offset (parts 10 (line_with_feed (counts_line calls)))) number calls ≡ Ok calls
-unfolding calls_behind read_last
+at-end : (calls : RecordedCalls) (offset number : ℕ) → calls_after (lines_from offset (parts 10 (line_with_feed (counts_line calls)))) number calls ≡ Ok calls
+unfolding calls_after read_last
 at-end calls offset number =
     let rest = lines_from (offset + length (counts_line calls) + 1) (parts 10 []) in
-    ap (λ text. calls_behind (lines_from offset (parts 10 text)) number calls) (sym (append-nil (line_with_feed (counts_line calls))))
-    ∙ ap (λ lines. calls_behind lines number calls) (first-one offset (counts_line calls) [] (end-lacks calls))
+    ap (λ text. calls_after (lines_from offset (parts 10 text)) number calls) (sym (append-nil (line_with_feed (counts_line calls))))
+    ∙ ap (λ lines. calls_after lines number calls) (first-one offset (counts_line calls) [] (end-lacks calls))
     ∙ ap (λ (last : Bool). cond last (read_last calls (number + 1) (counts_line calls) rest)
-    (and_entry calls (number + 1) (calls_behind rest (number + 1)) (entry_of_text (counts_line calls)))) (end-last calls)
-    ∙ ap (λ (same : Bool). cond same (ends_behind calls (number + 1) rest) (faulty Counts (number + 1))) (same-text (counts_line calls))
+    (and_entry calls (number + 1) (calls_after rest (number + 1)) (entry_of_text (counts_line calls)))) (end-last calls)
+    ∙ ap (λ (same : Bool). cond same (ends_after calls (number + 1) rest) (faulty Counts (number + 1))) (same-text (counts_line calls))
 
 -- THE LINES OF ENTRIES
 
 one-line : (done : RecordedCalls) (e : RecordEntry) (offset number : ℕ) (lines : List TextLine) → is_entry e ≡ true
-    → calls_behind ((record { text = entry_text e; offset = offset; is_ended = true }) ∷ lines) number done ≡ calls_behind lines (number + 1) (done ++ e ∷ [])
-unfolding calls_behind
+    → calls_after ((record { text = entry_text e; offset = offset; is_ended = true }) ∷ lines) number done ≡ calls_after lines (number + 1) (done ++ e ∷ [])
+unfolding calls_after
 one-line done e offset number lines is =
     ap (λ (last : Bool). cond last (read_last done (number + 1) (entry_text e) lines)
-    (and_entry done (number + 1) (calls_behind lines (number + 1)) (entry_of_text (entry_text e)))) (text-goes-on e is)
-    ∙ ap (and_entry done (number + 1) (calls_behind lines (number + 1))) (text-back e is)
+    (and_entry done (number + 1) (calls_after lines (number + 1)) (entry_of_text (entry_text e)))) (text-goes-on e is)
+    ∙ ap (and_entry done (number + 1) (calls_after lines (number + 1))) (text-back e is)
 
 -- The lines of entries, behind those of others, are read as all of them.
 read-body : (calls done : RecordedCalls) (offset number : ℕ) (rest : List ℕ) → are_calls calls ≡ true
-    → (at : ℕ) × ((line : ℕ) × (calls_behind (lines_from offset (parts 10 (body calls ++ rest))) number done ≡ calls_behind (lines_from at (parts 10 rest)) line (done ++ calls)))
-read-body [] done offset number rest are = (offset, (number, ap (calls_behind (lines_from offset (parts 10 rest)) number) (sym (append-nil done))))
+    → (at : ℕ) × ((line : ℕ) × (calls_after (lines_from offset (parts 10 (body calls ++ rest))) number done ≡ calls_after (lines_from at (parts 10 rest)) line (done ++ calls)))
+read-body [] done offset number rest are = (offset, (number, ap (calls_after (lines_from offset (parts 10 rest)) number) (sym (append-nil done))))
 read-body (e ∷ calls) done offset number rest are =
     let each = and_parts (is_entry e) (are_calls calls) are in
     let text = entry_text e in
     let behind = offset + length text + 1 in
     let more = read-body calls (done ++ e ∷ []) behind (number + 1) rest each.1 in
-    let here : calls_behind (lines_from offset (parts 10 (body (e ∷ calls) ++ rest))) number done ≡ calls_behind (lines_from behind (parts 10 (body calls ++ rest))) (number + 1) (done ++ e ∷ []) =
-    ap (λ t. calls_behind (lines_from offset (parts 10 t)) number done) (append_assoc (line_with_feed text) (body calls) rest)
-    ∙ ap (λ lines. calls_behind lines number done) (first-one offset text (body calls ++ rest) (text-lacks e each.0))
+    let here : calls_after (lines_from offset (parts 10 (body (e ∷ calls) ++ rest))) number done ≡ calls_after (lines_from behind (parts 10 (body calls ++ rest))) (number + 1) (done ++ e ∷ []) =
+    ap (λ t. calls_after (lines_from offset (parts 10 t)) number done) (append_assoc (line_with_feed text) (body calls) rest)
+    ∙ ap (λ lines. calls_after lines number done) (first-one offset text (body calls ++ rest) (text-lacks e each.0))
     ∙ one-line done e offset number (lines_from behind (parts 10 (body calls ++ rest))) each.0
     in
     let all = append_assoc done (e ∷ []) calls in
-    (more.0, (more.1.0, here ∙ more.1.1 ∙ ap (calls_behind (lines_from more.0 (parts 10 rest)) more.1.0) all))
+    (more.0, (more.1.0, here ∙ more.1.1 ∙ ap (calls_after (lines_from more.0 (parts 10 rest)) more.1.0) all))
 
 -- The text of calls is read as those calls.
 pub calls-back : (calls : RecordedCalls) → are_calls calls ≡ true → calls_of_text (calls_text calls) ≡ Ok calls

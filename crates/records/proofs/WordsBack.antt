@@ -13,7 +13,7 @@ use Rattle.records.specs.Calls.{RecordedOutcome, Succeeds, Fails, Binding, Is_pl
 use Rattle.records.specs.Calls.{WantedRight, LeftOut, RecordedEvent, Called, Ended, Omitted, RecordSpan, RecordEntry, operand_kinds}
 use Rattle.records.specs.Calls.{are_of_kinds, is_amount, is_binding, is_entry, is_event, is_made, is_real_number, is_of_kind, is_real_operand, is_outcome, is_span, is_text, is_wanted, is_call_name}
 use Rattle.records.specs.Named.{reason_name}
-use Rattle.records.specs.Sets.{command_rows, right_rows}
+use Rattle.call_facts.specs.Sets.{command_rows, right_rows}
 use Rattle.records.specs.Quoted.{quoted}
 use Rattle.records.specs.Readings.{Words, Next, What, Side, Nothing, Awaits}
 use Rattle.records.specs.Readings.{Binds, Bindings, bindings_from, bindings_of, choice_at, entry_of_words, recorded_event_of, left_out_of}
@@ -21,11 +21,11 @@ use Rattle.records.specs.Readings.{made_of, real_number_at, real_operand_at, ope
 use Rattle.records.specs.Readings.{record_span_at, binding_step, step_with, after_step, wanted_of, with_no_more, one_word_at, ◌>>=◌}
 use Rattle.records.specs.RestViews.{begins_with}
 use Rattle.records.specs.Texts.{amount_words, binding_words, entry_words, event_words, operand_words, outcome_words, end_side_word, wanted_words}
-use Rattle.records.proofs.FlagLaws.{flags-back}
+use Rattle.call_facts.proofs.FlagLaws.{flags-back}
 use Rattle.records.proofs.NameLaws.{call-back, call-choice, call-other, error-back, has_last_choice, is_choice, is_last_choice, reason-back}
 use Rattle.records.proofs.QuotedLaws.{quoted-back}
-use Rattle.records.proofs.Same.{three-parts}
-use Rattle.records.proofs.SetLaws.{good-commands, good-rights, set-back}
+use Rattle.call_facts.proofs.Same.{three-parts}
+use Rattle.call_facts.proofs.SetLaws.{good-commands, good-rights, set-back}
 
 -- NUMBERS
 

@@ -1,8 +1,9 @@
 -- What is kept of a recorded run: an entry for each call, in the order in which the calls end. (own)
-use Rattle.std.specs.Prelude.{◌==◌, ◌^◌, ◌&&◌, if◌then◌else◌, ℕ, Bool, true, false, nat_le, nat_lt, List, [], ◌∷◌, Option, Some, None}
+use Rattle.std.specs.Prelude.{◌==◌, ◌^◌, ◌&&◌, if◌then◌else◌, ℕ, Bool, true, false, map, nat_le, nat_lt, List, [], ◌∷◌, Option, Some, None}
 use Rattle.std.specs.List.{list_all}
-use Rattle.rights.specs.Calls.{Call, Open, Openat, Read, Write, Sendfd, Recvfd, Lseek, Ftruncate, Fsync, Fstat, Fcntl_getfl, Fcntl_setfl, Fstatat, Stat, Mkdirat, Mkdir}
-use Rattle.rights.specs.Calls.{Unlinkat, Unlink, Renameat, Dup, Close, Cap_rights_limit, Cap_fcntls_limit, Cap_enter, Cap_getmode, Socketpair, Fork}
+use Rattle.rights.specs.Calls.{Call}
+use Rattle.call_facts.specs.Facts.{Role, Descriptor, Amount, Status, Choice, facts_of}
+use Rattle.call_facts.specs.Facts as role
 use Rattle.rights.specs.Errors.{Errno}
 use Rattle.rights.specs.Opens.{OpenRequest, is_valid}
 use Rattle.rights.specs.Values.{CommandSet, PathText, RightSet, SideNumber}
@@ -33,35 +34,20 @@ pub data OperandKind : Type 0 where
   A_command_set : OperandKind
   A_choice : OperandKind
 
+-- the kind of an operand that is for this
+abbrev pub kind_of : Role → OperandKind
+kind_of Descriptor = A_number
+kind_of role.Path = A_path
+kind_of role.Flags = Open_flags
+kind_of role.Rights = A_right_set
+kind_of role.Commands = A_command_set
+kind_of Amount = A_number
+kind_of Status = A_number
+kind_of Choice = A_choice
+
 -- what each call is given
 abbrev pub operand_kinds : Call → List OperandKind
-operand_kinds Open = A_path ∷ Open_flags ∷ []
-operand_kinds Openat = A_number ∷ A_path ∷ Open_flags ∷ []
-operand_kinds Read = A_number ∷ []
-operand_kinds Write = A_number ∷ A_number ∷ []
-operand_kinds Sendfd = A_number ∷ A_number ∷ A_number ∷ []
-operand_kinds Recvfd = A_number ∷ []
-operand_kinds Lseek = A_number ∷ A_number ∷ []
-operand_kinds Ftruncate = A_number ∷ A_number ∷ []
-operand_kinds Fsync = A_number ∷ []
-operand_kinds Fstat = A_number ∷ []
-operand_kinds Fcntl_getfl = A_number ∷ []
-operand_kinds Fcntl_setfl = A_number ∷ A_number ∷ []
-operand_kinds Fstatat = A_number ∷ A_path ∷ []
-operand_kinds Stat = A_path ∷ []
-operand_kinds Mkdirat = A_number ∷ A_path ∷ []
-operand_kinds Mkdir = A_path ∷ []
-operand_kinds Unlinkat = A_number ∷ A_path ∷ A_choice ∷ []
-operand_kinds Unlink = A_path ∷ A_choice ∷ []
-operand_kinds Renameat = A_number ∷ A_path ∷ A_number ∷ A_path ∷ []
-operand_kinds Dup = A_number ∷ []
-operand_kinds Close = A_number ∷ []
-operand_kinds Cap_rights_limit = A_number ∷ A_right_set ∷ []
-operand_kinds Cap_fcntls_limit = A_number ∷ A_command_set ∷ []
-operand_kinds Cap_enter = []
-operand_kinds Cap_getmode = []
-operand_kinds Socketpair = []
-operand_kinds Fork = []
+operand_kinds call = map kind_of (facts_of call).roles
 
 -- what a call came to: success with a number, or an error
 pub data RecordedOutcome : Type 0 where

@@ -1,6 +1,5 @@
 pub mod Calls
 pub mod Named
-pub mod Sets
 pub mod Quoted
 pub mod Texts
 pub mod Readings
@@ -8,13 +7,12 @@ pub mod OperandViews
 pub mod EntryViews
 pub mod ReadingViews
 pub mod RestViews
-pub mod RowViews
 pub mod QuotedViews
 pub mod BindingViews
 pub mod FaultViews
 pub mod CallsViews
 pub mod CountViews
-pub mod Accounts
+pub mod LineAccounts
 pub mod GivenViews
 pub mod Beginnings
 pub mod Runs

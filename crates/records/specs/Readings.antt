@@ -10,7 +10,7 @@ use Rattle.records.specs.Calls.{RealOperand, Number, Path, Flags, Rights, Comman
 use Rattle.records.specs.Calls.{RecordedOutcome, Succeeds, Fails, Binding, Is_place, Is_end, MadeCall, WantedRight, LeftOut}
 use Rattle.records.specs.Calls.{RecordedEvent, Called, Ended, Omitted, RecordSpan, RecordEntry, RecordedCalls, is_call_name, operand_kinds}
 use Rattle.records.specs.Named.{call_of_word, error_of_word, reason_of_word}
-use Rattle.records.specs.Sets.{command_rows, request_of_word, right_rows, set_of_list}
+use Rattle.call_facts.specs.Sets.{command_rows, request_of_word, right_rows, set_of_list}
 use Rattle.records.specs.Quoted.{unquoted}
 use Rattle.records.specs.Texts.{descriptor_sign, counts_line, entry_text, calls_first_line}
 
@@ -211,32 +211,32 @@ is_counts_line [] = false
 is_counts_line (b ∷ text) = b == 101
 
 -- behind the last line, which has this number, the text ends
-abbrev pub ends_behind : RecordedCalls → ℕ → List TextLine → CallsReading
-ends_behind calls number [] = Ok calls
-ends_behind calls number (line ∷ []) = if bytes_eq line.text [] then Ok calls else faulty Behind (number + 1)
-ends_behind calls number (line ∷ next ∷ lines) = faulty Behind (number + 1)
+abbrev pub ends_after : RecordedCalls → ℕ → List TextLine → CallsReading
+ends_after calls number [] = Ok calls
+ends_after calls number (line ∷ []) = if bytes_eq line.text [] then Ok calls else faulty Behind (number + 1)
+ends_after calls number (line ∷ next ∷ lines) = faulty Behind (number + 1)
 
 unfoldable pub read_last : RecordedCalls → ℕ → List ℕ → List TextLine → CallsReading
-read_last calls number text lines = if bytes_eq (counts_line calls) text then ends_behind calls number lines else faulty Counts number
+read_last calls number text lines = if bytes_eq (counts_line calls) text then ends_after calls number lines else faulty Counts number
 
 abbrev pub and_entry : RecordedCalls → ℕ → (RecordedCalls → CallsReading) → Option RecordEntry → CallsReading
 and_entry calls number rest None = faulty Form number
 and_entry calls number rest (Some entry) = rest (calls ++ entry ∷ [])
 
 -- the lines behind those of some calls, of which the last has this number
-unfoldable pub calls_behind : List TextLine → ℕ → RecordedCalls → CallsReading
-calls_behind [] number calls = faulty NoEnd number
-calls_behind (line ∷ lines) number calls =
+unfoldable pub calls_after : List TextLine → ℕ → RecordedCalls → CallsReading
+calls_after [] number calls = faulty NoEnd number
+calls_after (line ∷ lines) number calls =
     if line.is_ended
     then (
     if is_counts_line line.text then read_last calls (number + 1) line.text lines
-    else and_entry calls (number + 1) (calls_behind lines (number + 1)) (entry_of_text line.text)
+    else and_entry calls (number + 1) (calls_after lines (number + 1)) (entry_of_text line.text)
     )
     else (if bytes_eq line.text [] then faulty NoEnd (number + 1) else faulty Form (number + 1))
 
 abbrev pub calls_of_lines : List TextLine → CallsReading
 calls_of_lines [] = faulty Form 1
-calls_of_lines (line ∷ lines) = if line.is_ended && bytes_eq line.text calls_first_line then calls_behind lines 1 [] else faulty Form 1
+calls_of_lines (line ∷ lines) = if line.is_ended && bytes_eq line.text calls_first_line then calls_after lines 1 [] else faulty Form 1
 
 unfoldable pub calls_of_text : List ℕ → CallsReading
 calls_of_text text = calls_of_lines (lines_of text)

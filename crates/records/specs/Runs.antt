@@ -1,23 +1,11 @@
 -- Where another run begins than the one that a record begins with: two records were joined, or one stands twice. (own)
 use Rattle.std.specs.Prelude.{◌&&◌, ◌||◌, not, if◌then◌else◌, ℕ, Bool, true, false, List, [], ◌∷◌, ◌++◌, codes, Option, Some, None}
 use Rattle.std.specs.Str.{bytes_eq}
-use Rattle.rights.specs.Calls.{Call, Fork}
-use Rattle.records.specs.Accounts.{is_listed}
+use Rattle.records.specs.LineAccounts.{is_listed}
+use Rattle.records.specs.Beginnings.{children_of}
 use Rattle.records.specs.Calls.{Called, Ended, Omitted, RecordEntry, RecordedCalls, RecordedEvent, RecordedOutcome, Succeeds, Fails}
 
 -- the processes that forks have made
-abbrev pub child_of : RecordedOutcome → List ℕ
-child_of (Succeeds child) = child ∷ []
-child_of (Fails error) = []
-
-abbrev pub is_fork : Call → Bool
-is_fork Fork = true
-is_fork _ = false
-
-abbrev pub children_of : RecordedEvent → List ℕ
-children_of (Called made) = if is_fork made.call then child_of made.outcome else []
-children_of _ = []
-
 abbrev pub forked_by : RecordedCalls → List ℕ
 forked_by [] = []
 forked_by (entry ∷ calls) = children_of entry.event ++ forked_by calls

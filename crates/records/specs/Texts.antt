@@ -11,7 +11,7 @@ use Rattle.texts.specs.Parts.{joined}
 use Rattle.records.specs.Calls.{RealOperand, Number, Path, Flags, Rights, Commands, Directory, RecordedOutcome, Succeeds, Fails, Binding, Is_place, Is_end, MadeCall}
 use Rattle.records.specs.Calls.{Reason, Loader, Quiet, Global, Right, Unknown, Name, WantedRight, LeftOut, RecordedEvent, Called, Ended, Omitted, RecordEntry, RecordedCalls}
 use Rattle.records.specs.Named.{all_reasons, reason_name}
-use Rattle.records.specs.Sets.{command_rows, flag_rows, flag_set, right_rows, set_word}
+use Rattle.call_facts.specs.Sets.{command_rows, flag_rows, flag_set, right_rows, set_word}
 use Rattle.records.specs.Quoted.{quoted}
 
 -- WORDS
@@ -67,8 +67,8 @@ abbrev pub entry_words : RecordEntry → List (List ℕ)
 entry_words entry = decimal entry.span.first ∷ decimal entry.span.last ∷ decimal entry.process ∷ event_words entry.event
 
 -- words, each behind a space
-abbrev pub behind_spaces : List (List ℕ) → List ℕ
-behind_spaces words = flat_map (λ word. space ∷ word) words
+abbrev pub after_spaces : List (List ℕ) → List ℕ
+after_spaces words = flat_map (λ word. space ∷ word) words
 
 -- the text of a line, without its line feed
 unfoldable pub entry_text : RecordEntry → List ℕ

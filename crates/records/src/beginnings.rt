@@ -2,29 +2,42 @@
 
 ghost use Rattle.std.specs.Prelude.{◌≡◌, ◌++◌, IfOk, OnOk};
 ghost use Rattle.std.specs.List.{flat_map};
-ghost use Rattle.records.specs.Beginnings.{children_in, first_processes, is_of_new};
+ghost use Rattle.records.specs.Beginnings.{children_of, first_processes, is_of_new};
 ghost use Rattle.records.specs.Calls.{RecordEntry};
 ghost use Rattle.records.specs.EntryViews.{calls_seen, event_seen, record_entry_seen};
+ghost use Rattle.records.specs.Runs.{option_list};
 
 use crate::entries::{Entry, Event, Outcome};
-use rights::{Call, Memory};
+use call_facts::forks;
+use rights::Memory;
 use std::alloc::Global;
 
-/// Adds the process that an event has made, if it is a fork that succeeded.
-fn add_child(made: &mut Vec<u32>, event: &Event) -> Result<(), Memory>
-    ensures { OnOk result (made.new.items ≡ made.old.items ++ children_in (event_seen event.now)) }
+/// The process that an event has made, if it is a fork that succeeded.
+pub(crate) fn child_of(event: &Event) -> Option<u32>
+    ensures { option_list result ≡ children_of (event_seen event.now) }
 {
-    if let Event::Called(call) = event {
-        if let (Call::Fork, Outcome::Success(child)) = (call.call, call.outcome) {
-            made.push(child)?;
-        }
+    match event {
+        Event::Called(made) if forks(made.call) => match made.outcome {
+            Outcome::Success(child) => Some(child),
+            Outcome::Failure(_) => None,
+        },
+        _ => None,
+    }
+}
+
+/// Adds the process that an event has made, if it has made one.
+fn add_child(made: &mut Vec<u32>, event: &Event) -> Result<(), Memory>
+    ensures { OnOk result (made.new.items ≡ made.old.items ++ children_of (event_seen event.now)) }
+{
+    if let Some(child) = child_of(event) {
+        made.push(child)?;
     }
     Ok(())
 }
 
 /// The processes that calls of a record have made.
 fn children_of(alloc: Global, entries: &[Entry]) -> Result<Vec<u32>, Memory>
-    ensures { IfOk result (λ made. made.items ≡ flat_map (λ (entry : RecordEntry). children_in entry.event) (calls_seen entries.now)) }
+    ensures { IfOk result (λ made. made.items ≡ flat_map (λ (entry : RecordEntry). children_of entry.event) (calls_seen entries.now)) }
 {
     let mut made = Vec::new(alloc);
     for entry in entries {

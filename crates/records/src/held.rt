@@ -7,7 +7,7 @@ pub(crate) const MAX_FOLLOWED: u32 = 256;
 
 /// What a descriptor is of.
 #[derive(Clone, Copy, PartialEq, Eq)]
-pub(crate) enum Kept {
+pub(crate) enum Referent {
     /// It isn't known.
     Unknown,
     /// The node at the place of this number.
@@ -16,12 +16,12 @@ pub(crate) enum Kept {
     End(u32, Side),
 }
 
-impl Kept {
+impl Referent {
     /// A number of an end that no other one has; all that is none has 0.
     pub(crate) fn end_number(self) -> u64 {
         match self {
-            Kept::Unknown | Kept::Place(_) => 0,
-            Kept::End(pair, side) => {
+            Referent::Unknown | Referent::Place(_) => 0,
+            Referent::End(pair, side) => {
                 u64::from(pair) << 2 | if matches!(side, Side::A) { 1 } else { 2 }
             }
         }
@@ -29,12 +29,12 @@ impl Kept {
 }
 
 /// An end of the world's pair.
-pub(crate) const WORLD: Kept = Kept::End(0, Side::A);
+pub(crate) const WORLD: Referent = Referent::End(0, Side::A);
 
 /// A descriptor that a process holds.
 #[derive(Clone, Copy)]
 pub(crate) struct Held {
-    pub kept: Kept,
+    pub kept: Referent,
     /// Whether it is closed where the process goes on as another program.
     pub closes_on_exec: bool,
     /// The number of the queue of events that watches it.
@@ -78,10 +78,10 @@ impl Table {
     }
 
     /// What a number stands for.
-    pub(crate) fn kept(&self, number: u32) -> Kept {
+    pub(crate) fn kept(&self, number: u32) -> Referent {
         match self.get(number) {
             Some(held) => held.kept,
-            None => Kept::Unknown,
+            None => Referent::Unknown,
         }
     }
 
@@ -124,7 +124,7 @@ impl Table {
     /// The first number that is an end of the world's pair, or 0.
     pub(crate) fn world_number(&self) -> u32 {
         for number in 0..MAX_FOLLOWED {
-            if matches!(self.kept(number), Kept::End(0, _)) {
+            if matches!(self.kept(number), Referent::End(0, _)) {
                 return number;
             }
         }

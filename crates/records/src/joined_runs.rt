@@ -1,14 +1,14 @@
 //! Where another run begins than the one that a record begins with.
 
 ghost use Rattle.std.specs.Prelude.{◌≡◌, IfOk, OnOk};
-ghost use Rattle.records.specs.Accounts.{is_listed};
+ghost use Rattle.records.specs.LineAccounts.{is_listed};
 ghost use Rattle.records.specs.EntryViews.{calls_seen, event_seen, record_entry_seen};
-ghost use Rattle.records.specs.Runs.{another_run, begins_run, children_of, forked_by, is_end, is_execute, option_list, seen_with};
+ghost use Rattle.records.specs.Runs.{another_run, begins_run, forked_by, is_end, is_execute, seen_with};
 ghost use Rattle.records.specs.SeenViews.{seen_of};
 
-use crate::entries::{Entry, Event, Outcome};
+use crate::beginnings::child_of;
+use crate::entries::{Entry, Event};
 use crate::strace_texts::same_bytes;
-use rights::Call;
 use std::alloc::{AllocError, Global};
 
 /// Which processes have made calls, and which have ended.
@@ -23,19 +23,6 @@ fn is_listed(number: u32, numbers: &[u32]) -> bool
     ensures { result ≡ is_listed number numbers.now }
 {
     numbers.iter().any(|own| *own == number)
-}
-
-/// The process that an event makes, if it makes one.
-fn child_of(event: &Event) -> Option<u32>
-    ensures { option_list result ≡ children_of (event_seen event.now) }
-{
-    match event {
-        Event::Called(made) if made.call == Call::Fork => match made.outcome {
-            Outcome::Success(child) => Some(child),
-            Outcome::Failure(_) => None,
-        },
-        _ => None,
-    }
 }
 
 /// The processes that forks have made.

@@ -7,7 +7,7 @@ ghost use Rattle.records.specs.EntryViews.{binding_seen};
 
 use crate::argument_values::{Mention, behind, place_note, socket_inode};
 use crate::entries::Binding;
-use crate::held::{Held, Kept, WORLD};
+use crate::held::{Held, Referent, WORLD};
 use crate::processes::Process;
 use crate::strace::System;
 use crate::strings::add_unescaped;
@@ -27,7 +27,7 @@ pub(crate) type About<'t> = [Option<Mention<'t>>; 2];
 struct Passed {
     pair: u32,
     from: Side,
-    kept: Kept,
+    kept: Referent,
 }
 
 /// What is known where a process makes a call.
@@ -42,7 +42,7 @@ pub(crate) struct Known {
     /// How many pairs there are: 0 is the world's.
     pairs: u32,
     /// The ends of pairs by the numbers that the record notes.
-    ends: BTreeMap<u32, Kept>,
+    ends: BTreeMap<u32, Referent>,
     /// The descriptors that were sent and not received yet, in their order.
     passed: Vec<Passed>,
     /// The ends that don't wait, by their numbers.
@@ -68,10 +68,10 @@ impl Known {
     }
 
     /// The place of a node, if it is one.
-    pub(crate) fn place_of(&self, kept: Kept) -> Option<&Page> {
+    pub(crate) fn place_of(&self, kept: Referent) -> Option<&Page> {
         match kept {
-            Kept::Place(number) => self.places.get(number),
-            Kept::Unknown | Kept::End(_, _) => None,
+            Referent::Place(number) => self.places.get(number),
+            Referent::Unknown | Referent::End(_, _) => None,
         }
     }
 
@@ -83,16 +83,16 @@ impl Known {
     }
 
     /// Keeps a place, if it isn't too long.
-    pub(crate) fn keep(&mut self, place: Page) -> Kept {
+    pub(crate) fn keep(&mut self, place: Page) -> Referent {
         self.note(&place);
         if place.as_bytes().len() > MAX_PLACE {
-            return Kept::Unknown;
+            return Referent::Unknown;
         }
         let number = self.places.len();
         if self.places.push(place).is_err() {
             self.is_short = true;
         }
-        Kept::Place(number)
+        Referent::Place(number)
     }
 
     /// The number of a new pair.
@@ -125,7 +125,7 @@ impl Known {
 
     /// Notes that a descriptor is sent through an end of a pair.
     pub(crate) fn pass(&mut self, socket: Mention<'_>, sent: Mention<'_>) {
-        if let Kept::End(pair, from) = self.kept_of(socket) {
+        if let Referent::End(pair, from) = self.kept_of(socket) {
             let kept = self.kept_of(sent);
             if self.passed.push(Passed { pair, from, kept }).is_err() {
                 self.is_short = true;
@@ -135,9 +135,9 @@ impl Known {
 
     /// What a descriptor is of that is received through an end of a pair: what its note tells, or else what was sent first, of what wasn't received
     /// yet.
-    pub(crate) fn received(&mut self, socket: Mention<'_>, received: Mention<'_>) -> Kept {
+    pub(crate) fn received(&mut self, socket: Mention<'_>, received: Mention<'_>) -> Referent {
         let noted = self.kept_of_note(received.note);
-        let Kept::End(pair, side) = self.kept_of(socket) else {
+        let Referent::End(pair, side) = self.kept_of(socket) else {
             return noted;
         };
         for at in 0..self.passed.len() {
@@ -145,7 +145,8 @@ impl Known {
             if own.pair == pair && !own.from.is(side) {
                 self.passed.remove(at);
                 return match (noted, own.kept) {
-                    (Kept::End(0, _) | Kept::Unknown, kept) if kept != Kept::Unknown => kept,
+                    (Referent::End(0, _) | Referent::Unknown, kept) if kept != Referent::Unknown =>
+                        kept,
                     _ => noted,
                 };
             }
@@ -154,7 +155,7 @@ impl Known {
     }
 
     /// Notes which end a socket is.
-    pub(crate) fn note_end(&mut self, note: &[u8], end: Kept) {
+    pub(crate) fn note_end(&mut self, note: &[u8], end: Referent) {
         if let Some(inode) = socket_inode(note) {
             if self.ends.insert(inode, end).is_err() {
                 self.is_short = true;
@@ -163,7 +164,7 @@ impl Known {
     }
 
     /// Which end a note tells: one of the world's pair where it tells none that is known.
-    fn end_of_note(&self, note: &[u8]) -> Kept {
+    fn end_of_note(&self, note: &[u8]) -> Referent {
         match socket_inode(note) {
             Some(inode) => self.ends.get(&inode).copied().unwrap_or(WORLD),
             None => WORLD,
@@ -171,10 +172,10 @@ impl Known {
     }
 
     /// What a note says of a descriptor that was not known before.
-    pub(crate) fn kept_of_note(&mut self, note: &[u8]) -> Kept {
+    pub(crate) fn kept_of_note(&mut self, note: &[u8]) -> Referent {
         let Some(noted) = place_note(note) else {
             return if note.is_empty() {
-                Kept::Unknown
+                Referent::Unknown
             } else {
                 self.end_of_note(note)
             };
@@ -185,9 +186,9 @@ impl Known {
     }
 
     /// What a descriptor is of, or else what its note tells.
-    pub(crate) fn kept_of(&mut self, mention: Mention<'_>) -> Kept {
+    pub(crate) fn kept_of(&mut self, mention: Mention<'_>) -> Referent {
         match self.process.table.kept(mention.number) {
-            Kept::Unknown => self.kept_of_note(mention.note),
+            Referent::Unknown => self.kept_of_note(mention.note),
             kept => kept,
         }
     }
@@ -195,23 +196,23 @@ impl Known {
     /// Whether a descriptor is an end of a pair.
     pub(crate) fn is_end(&self, mention: Mention<'_>) -> bool {
         match self.process.table.kept(mention.number) {
-            Kept::End(_, _) => true,
-            Kept::Place(_) => false,
-            Kept::Unknown => is_end_note(mention.note),
+            Referent::End(_, _) => true,
+            Referent::Place(_) => false,
+            Referent::Unknown => is_end_note(mention.note),
         }
     }
 
     /// Whether a descriptor is of a node.
     pub(crate) fn is_node(&self, mention: Mention<'_>) -> bool {
         match self.process.table.kept(mention.number) {
-            Kept::Place(_) => true,
-            Kept::End(_, _) => false,
-            Kept::Unknown => place_note(mention.note).is_some(),
+            Referent::Place(_) => true,
+            Referent::End(_, _) => false,
+            Referent::Unknown => place_note(mention.note).is_some(),
         }
     }
 
     /// Puts a descriptor at a number of the process.
-    pub(crate) fn hold(&mut self, number: u32, kept: Kept, closes_on_exec: bool) {
+    pub(crate) fn hold(&mut self, number: u32, kept: Referent, closes_on_exec: bool) {
         self.process.table.put(
             number,
             Some(Held {
@@ -225,7 +226,7 @@ impl Known {
     /// Takes a number of the world's pair for the node that its note tells, since it has an offset.
     pub(crate) fn take_for_file(&mut self, mention: Mention<'_>) {
         let note = mention.note;
-        let is_world = matches!(self.process.table.kept(mention.number), Kept::End(0, _));
+        let is_world = matches!(self.process.table.kept(mention.number), Referent::End(0, _));
         let is_device = behind(note, b"<char ").is_some()
             || behind(note, b"<block ").is_some()
             || note.starts_with(b"/memfd:");
@@ -236,9 +237,9 @@ impl Known {
     }
 
     /// What a descriptor is of: where it isn't known to be an end, its note counts.
-    fn kept_or_noted(&self, mention: Mention<'_>) -> Kept {
+    fn kept_or_noted(&self, mention: Mention<'_>) -> Referent {
         match self.process.table.kept(mention.number) {
-            Kept::Unknown | Kept::Place(_) if is_end_note(mention.note) => {
+            Referent::Unknown | Referent::Place(_) if is_end_note(mention.note) => {
                 self.end_of_note(mention.note)
             }
             kept => kept,
@@ -246,7 +247,7 @@ impl Known {
     }
 
     /// The place that a note tells, or else that which is known.
-    fn noted_place(&self, note: &[u8], kept: Kept) -> Option<Page> {
+    fn noted_place(&self, note: &[u8], kept: Referent) -> Option<Page> {
         let mut place = Page::new(self.alloc);
         if let Some(noted) = place_note(note) {
             add_unescaped(&mut place, noted);
@@ -272,7 +273,7 @@ impl Known {
         };
         let descriptor = mention.number;
         let kept = self.kept_or_noted(mention);
-        if let Kept::End(pair, side) = kept {
+        if let Referent::End(pair, side) = kept {
             bindings.push(Binding::End {
                 descriptor,
                 pair,

@@ -2,7 +2,6 @@
 //! truss write tell, and what calls they are.
 #![tactic(auto)]
 
-mod accounts;
 mod argument_parts;
 mod argument_values;
 mod beginnings;
@@ -15,6 +14,7 @@ mod held;
 mod joined_runs;
 mod known;
 mod limiting;
+mod line_accounts;
 pub mod line_texts;
 mod logs;
 mod name_calls;
@@ -32,7 +32,6 @@ mod real_calls;
 pub mod recorded;
 mod runs;
 mod seen_calls;
-mod sets;
 mod strace;
 mod strace_headers;
 mod strace_results;
@@ -55,8 +54,7 @@ pub use entries::{
 pub use faults::CallsFault;
 pub use joined_runs::another_run;
 pub use line_texts::add_event;
-pub use operands::{Kind, Operand, operand_kinds};
+pub use operands::{Kind, Operand};
 pub use reading::read_calls;
 pub use recorded::{Recorded, recorded_calls};
-pub use sets::add_flags;
 pub use writing::write_calls;

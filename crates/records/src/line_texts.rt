@@ -7,18 +7,18 @@ ghost use Rattle.rights.specs.Views.{side_seen};
 ghost use Rattle.records.specs.EntryViews.{binding_seen, record_entry_seen, event_seen, left_out_seen, made_seen, outcome_seen, wanted_seen};
 ghost use Rattle.records.specs.OperandViews.{operand_seen};
 ghost use Rattle.records.specs.Texts.{amount_words, binding_words, line_with_feed, entry_text, event_words, left_out_words};
-ghost use Rattle.records.specs.Texts.{made_words, operand_words, outcome_words, end_side_word, behind_spaces, wanted_words};
+ghost use Rattle.records.specs.Texts.{made_words, operand_words, outcome_words, end_side_word, after_spaces, wanted_words};
 
 use crate::entries::{Binding, Entry, Event, LeftOut, MadeCall, Outcome, WantedRight};
 use crate::operands::Operand;
 use crate::quoting::add_quoted;
-use crate::sets::{add_commands, add_flags, add_rights};
+use call_facts::sets::{add_commands, add_flags, add_rights};
 use rights::Side;
 use texts::{Page, Say, parts_of, say};
 
 /// Adds an operand, behind a space.
 fn add_operand(page: &mut Page, operand: &Operand)
-    ensures { Adds page.old page.new (behind_spaces (operand_words (operand_seen operand.now))) }
+    ensures { Adds page.old page.new (after_spaces (operand_words (operand_seen operand.now))) }
 {
     match operand {
         Operand::Number(number) => say!(page; " ", *number),
@@ -45,7 +45,7 @@ fn add_operand(page: &mut Page, operand: &Operand)
 
 /// Adds operands, each behind a space.
 fn add_operands(page: &mut Page, operands: &[Operand])
-    ensures { Adds page.old page.new (behind_spaces (flat_map operand_words (map operand_seen operands.now))) }
+    ensures { Adds page.old page.new (after_spaces (flat_map operand_words (map operand_seen operands.now))) }
 {
     for operand in operands {
         add_operand(page, operand);
@@ -54,7 +54,7 @@ fn add_operands(page: &mut Page, operands: &[Operand])
 
 /// Adds an outcome, each word behind a space.
 fn add_outcome(page: &mut Page, outcome: Outcome)
-    ensures { Adds page.old page.new (behind_spaces (outcome_words (outcome_seen outcome))) }
+    ensures { Adds page.old page.new (after_spaces (outcome_words (outcome_seen outcome))) }
 {
     match outcome {
         Outcome::Success(answer) => say!(page; " = ", answer),
@@ -74,7 +74,7 @@ fn side_name(side: Side) -> &'static str
 
 /// Adds what a descriptor is, each word behind a space.
 fn add_binding(page: &mut Page, binding: &Binding)
-    ensures { Adds page.old page.new (behind_spaces (binding_words (binding_seen binding.now))) }
+    ensures { Adds page.old page.new (after_spaces (binding_words (binding_seen binding.now))) }
 {
     match binding {
         Binding::Place { descriptor, place } => {
@@ -91,7 +91,7 @@ fn add_binding(page: &mut Page, binding: &Binding)
 
 /// Adds what descriptors are, each word behind a space.
 fn add_bindings(page: &mut Page, bindings: &[Binding])
-    ensures { Adds page.old page.new (behind_spaces (flat_map binding_words (map binding_seen bindings.now))) }
+    ensures { Adds page.old page.new (after_spaces (flat_map binding_words (map binding_seen bindings.now))) }
 {
     for binding in bindings {
         add_binding(page, binding);
@@ -100,7 +100,7 @@ fn add_bindings(page: &mut Page, bindings: &[Binding])
 
 /// Adds the amount of bytes, each word behind a space.
 fn add_amount(page: &mut Page, bytes: Option<u32>)
-    ensures { Adds page.old page.new (behind_spaces (amount_words bytes)) }
+    ensures { Adds page.old page.new (after_spaces (amount_words bytes)) }
 {
     match bytes {
         Some(bytes) => say!(page; " bytes ", bytes),
@@ -110,7 +110,7 @@ fn add_amount(page: &mut Page, bytes: Option<u32>)
 
 /// Adds a call, each word behind a space.
 fn add_made(page: &mut Page, made: &MadeCall)
-    ensures { Adds page.old page.new (behind_spaces (made_words (made_seen made.now))) }
+    ensures { Adds page.old page.new (after_spaces (made_words (made_seen made.now))) }
 {
     say!(page; " ", made.call.name());
     add_operands(page, &made.operands);
@@ -121,7 +121,7 @@ fn add_made(page: &mut Page, made: &MadeCall)
 
 /// Adds a right that is wanted, each word behind a space.
 fn add_wanted(page: &mut Page, wanted: &Option<WantedRight>)
-    ensures { Adds page.old page.new (behind_spaces (wanted_words (option_map wanted_seen wanted.now))) }
+    ensures { Adds page.old page.new (after_spaces (wanted_words (option_map wanted_seen wanted.now))) }
 {
     match wanted {
         Some(wanted) => say!(page; " ", wanted.right.as_slice(), " ", wanted.descriptor),
@@ -131,7 +131,7 @@ fn add_wanted(page: &mut Page, wanted: &Option<WantedRight>)
 
 /// Adds what is left out, each word behind a space.
 fn add_left_out(page: &mut Page, left_out: &LeftOut)
-    ensures { Adds page.old page.new (behind_spaces (left_out_words (left_out_seen left_out.now))) }
+    ensures { Adds page.old page.new (after_spaces (left_out_words (left_out_seen left_out.now))) }
 {
     say!(page; " - ", left_out.reason.name(), " ", left_out.name.as_slice());
     add_wanted(page, &left_out.wanted);
@@ -139,7 +139,7 @@ fn add_left_out(page: &mut Page, left_out: &LeftOut)
 
 /// Adds an event as its line tells it, each word behind a space.
 pub fn add_event(page: &mut Page, event: &Event)
-    ensures { Adds page.old page.new (behind_spaces (event_words (event_seen event.now))) }
+    ensures { Adds page.old page.new (after_spaces (event_words (event_seen event.now))) }
 {
     match event {
         Event::Called(made) => add_made(page, made),

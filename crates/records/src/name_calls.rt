@@ -11,7 +11,7 @@ use crate::real_calls::Given;
 use crate::runs::Run;
 use crate::seen_calls::{SeenCall, Through};
 use crate::strace_texts::same_bytes;
-use crate::targets::{AT, HERE, NEW_AT, NEW_HERE, Naming, Target};
+use crate::targets::{AT, HERE, NEW_AT, NEW_HERE, PathArgument, Target};
 use rights::{Call, Errno};
 
 /// The first directory, in a rename of global names: of a number that no process has.
@@ -132,8 +132,8 @@ fn add_rename<'p>(
 fn take_names(
     run: &mut Run,
     seen: &SeenCall<'_>,
-    source: Naming,
-    target: Naming,
+    source: PathArgument,
+    target: PathArgument,
 ) -> Option<Reason> {
     let source = run.known.target(seen, source);
     let target = run.known.target(seen, target);
@@ -174,7 +174,7 @@ fn add_named(
 }
 
 /// How the name of a call that works by one is told.
-fn naming_of(form: OnName) -> Naming {
+fn naming_of(form: OnName) -> PathArgument {
     match form {
         OnName::StatusAt | OnName::MakeDirectoryAt | OnName::RemoveAt => AT,
         _ => HERE,

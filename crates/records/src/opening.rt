@@ -8,8 +8,8 @@ use crate::pairing::take_world;
 use crate::real_calls::Given;
 use crate::runs::Run;
 use crate::seen_calls::SeenCall;
-use crate::strace_texts::{place_of, same_bytes};
-use crate::targets::{AT, HERE, Naming, Target};
+use crate::strace_texts::{offset_of, same_bytes};
+use crate::targets::{AT, HERE, PathArgument, Target};
 use rights::{Call, OpenFlags};
 
 /// How these flags open a file, if that has a counterpart.
@@ -110,7 +110,7 @@ fn add_open(
 }
 
 /// How the name is told of what is opened.
-fn naming_of(opening: Opening) -> Naming {
+fn naming_of(opening: Opening) -> PathArgument {
     match opening {
         Opening::At => AT,
         Opening::Plain | Opening::Creat => HERE,
@@ -121,9 +121,9 @@ fn naming_of(opening: Opening) -> Naming {
 pub(crate) fn is_of_library(run: &mut Run, seen: &SeenCall<'_>, opening: Opening) -> bool {
     let target = run.known.target(seen, naming_of(opening));
     let path = target.path.as_bytes();
-    place_of(path, b".so").is_some()
-        || place_of(path, b"/ld-musl").is_some()
-        || place_of(path, b"/libmap").is_some()
+    offset_of(path, b".so").is_some()
+        || offset_of(path, b"/ld-musl").is_some()
+        || offset_of(path, b"/libmap").is_some()
 }
 
 /// Whether what was opened is no node, as its note tells: a pipe or a socket, by a name of a descriptor that is there.

@@ -1,11 +1,12 @@
 //! What calls are given.
 
-ghost use Rattle.std.specs.Prelude.{◌≡◌, map};
-ghost use Rattle.rights.specs.Views.{call_of};
-ghost use Rattle.records.specs.Calls.{operand_kinds};
+ghost use Rattle.std.specs.Prelude.{◌≡◌};
+ghost use Rattle.call_facts.specs.FactViews.{role_seen};
+ghost use Rattle.records.specs.Calls.{kind_of};
 ghost use Rattle.records.specs.OperandViews.{kind_seen};
 
-use rights::{Call, Fcntls, OpenFlags, Rights};
+use call_facts::Role;
+use rights::{Fcntls, OpenFlags, Rights};
 
 /// The kind of an operand.
 #[derive(Clone, Copy)]
@@ -35,31 +36,16 @@ pub enum Operand {
     Directory(bool),
 }
 
-/// What a call is given, in this order.
-pub fn operand_kinds(call: Call) -> &'static [Kind]
-    ensures { map kind_seen result.now ≡ operand_kinds (call_of call) }
+/// Of which kind an operand is that is for this.
+pub(crate) fn kind_of(role: Role) -> Kind
+    ensures { kind_seen result ≡ kind_of (role_seen role) }
 {
-    match call {
-        Call::CapEnter | Call::CapGetmode | Call::Socketpair | Call::Fork => &[],
-        Call::Stat | Call::Mkdir => &[Kind::Path],
-        Call::Unlink => &[Kind::Path, Kind::Directory],
-        Call::Open => &[Kind::Path, Kind::Flags],
-        Call::Read
-        | Call::Recvfd
-        | Call::Fsync
-        | Call::Fstat
-        | Call::FcntlGetfl
-        | Call::Dup
-        | Call::Close => &[Kind::Number],
-        Call::Write | Call::Lseek | Call::Ftruncate | Call::FcntlSetfl => {
-            &[Kind::Number, Kind::Number]
-        }
-        Call::Sendfd => &[Kind::Number, Kind::Number, Kind::Number],
-        Call::CapRightsLimit => &[Kind::Number, Kind::Rights],
-        Call::CapFcntlsLimit => &[Kind::Number, Kind::Commands],
-        Call::Fstatat | Call::Mkdirat => &[Kind::Number, Kind::Path],
-        Call::Openat => &[Kind::Number, Kind::Path, Kind::Flags],
-        Call::Unlinkat => &[Kind::Number, Kind::Path, Kind::Directory],
-        Call::Renameat => &[Kind::Number, Kind::Path, Kind::Number, Kind::Path],
+    match role {
+        Role::Descriptor | Role::Amount | Role::Status => Kind::Number,
+        Role::Path => Kind::Path,
+        Role::Flags => Kind::Flags,
+        Role::Rights => Kind::Rights,
+        Role::Commands => Kind::Commands,
+        Role::Choice => Kind::Directory,
     }
 }

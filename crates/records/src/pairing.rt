@@ -2,7 +2,7 @@
 
 use crate::argument_values::{Mention, closes_on_exec, first_listed, next_listed};
 use crate::entries::{Outcome, Reason};
-use crate::held::{Kept, WORLD};
+use crate::held::{Referent, WORLD};
 use crate::other_rights::OtherRight;
 use crate::runs::Run;
 use crate::seen_calls::{SeenCall, Through};
@@ -15,7 +15,7 @@ const FLAGS: usize = 1;
 const CONNECTION_FLAGS: usize = 3;
 
 /// Makes an end of a pair known.
-fn hold_end(run: &mut Run, end: Mention<'_>, kept: Kept, closes_on_exec: bool) {
+fn hold_end(run: &mut Run, end: Mention<'_>, kept: Referent, closes_on_exec: bool) {
     run.known.hold(end.number, kept, closes_on_exec);
     run.known.note_end(end.note, kept);
 }
@@ -31,8 +31,8 @@ fn add_nonblock(run: &mut Run, seen: &SeenCall<'_>, end: Mention<'_>) {
 fn add_pair(run: &mut Run, seen: &SeenCall<'_>, first: Mention<'_>, second: Mention<'_>) {
     let pair = run.known.new_pair();
     let closes_on_exec = seen.has_any(FLAGS, &[b"SOCK_CLOEXEC", b"O_CLOEXEC"]);
-    hold_end(run, first, Kept::End(pair, Side::A), closes_on_exec);
-    hold_end(run, second, Kept::End(pair, Side::B), closes_on_exec);
+    hold_end(run, first, Referent::End(pair, Side::A), closes_on_exec);
+    hold_end(run, second, Referent::End(pair, Side::B), closes_on_exec);
     let outcome = Some(Outcome::Success(first.number));
     let about = [Some(first), Some(second)];
     run.add(seen, Call::Socketpair, &[], outcome, about);
@@ -88,7 +88,7 @@ pub(crate) fn take_world(run: &mut Run, seen: &SeenCall<'_>) -> Option<Reason> {
 
 /// Makes the descriptor known that is listened on: of the world, where nothing else is known.
 fn listen_on(run: &mut Run, listener: Mention<'_>) {
-    if matches!(run.known.kept_of(listener), Kept::Unknown) {
+    if matches!(run.known.kept_of(listener), Referent::Unknown) {
         run.known.hold(listener.number, WORLD, false);
     }
 }
@@ -98,7 +98,7 @@ fn add_connection(run: &mut Run, through: &Through<'_>, made: Mention<'_>) {
     let seen = through.seen;
     let pair = run.known.new_pair();
     let closes_on_exec = closes_on_exec(seen.text);
-    hold_end(run, made, Kept::End(pair, Side::A), closes_on_exec);
+    hold_end(run, made, Referent::End(pair, Side::A), closes_on_exec);
     run.add_on(through, Call::Recvfd, seen.made, seen.outcome);
     if seen.has(CONNECTION_FLAGS, b"SOCK_NONBLOCK") {
         add_nonblock(run, seen, made);

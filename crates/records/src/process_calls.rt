@@ -4,7 +4,7 @@ use crate::argument_values::has_word;
 use crate::descriptor_calls::add_silent_close;
 use crate::entries::{Outcome, Reason};
 use crate::forms::OnProcess;
-use crate::held::{Kept, MAX_FOLLOWED};
+use crate::held::{MAX_FOLLOWED, Referent};
 use crate::other_rights::OtherRight;
 use crate::runs::Run;
 use crate::seen_calls::SeenCall;

@@ -2,7 +2,7 @@
 
 ghost use Rattle.std.specs.Prelude.{◌≡◌, ◌<◌, length, true};
 
-use crate::held::{Kept, NOTHING_HELD, Table};
+use crate::held::{NOTHING_HELD, Referent, Table};
 use std::alloc::Global;
 use std::collections::BTreeMap;
 use std::mem;
@@ -17,9 +17,9 @@ pub(crate) struct Process {
     /// The line in which the fork began that has made it, or 0.
     pub forked: u32,
     /// Its current directory.
-    pub directory: Kept,
+    pub directory: Referent,
     /// Its root directory, if that isn't the first one.
-    pub root: Kept,
+    pub root: Referent,
     pub table: Table,
     /// Whether its first thread goes on, and how many others do.
     has_leader: bool,
@@ -36,8 +36,8 @@ impl Process {
             number,
             leader: number,
             forked: 0,
-            directory: Kept::Unknown,
-            root: Kept::Unknown,
+            directory: Referent::Unknown,
+            root: Referent::Unknown,
             table: Table::first(),
             has_leader: true,
             others: 0,

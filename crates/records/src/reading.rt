@@ -6,7 +6,7 @@ ghost use Rattle.records.specs.EntryViews.{calls_seen, record_entry_seen, event_
 ghost use Rattle.records.specs.Calls.{RecordedCalls, are_calls};
 ghost use Rattle.records.specs.CallsViews.{FailsCalls, ReadsCalls};
 ghost use Rattle.records.specs.ReadingViews.{Reads, Tests};
-ghost use Rattle.records.specs.Readings.{Form, NoEnd, calls_behind, calls_of_lines, calls_of_text, ends_behind, entry_of_text, entry_of_words, faulty};
+ghost use Rattle.records.specs.Readings.{Form, NoEnd, calls_after, calls_of_lines, calls_of_text, ends_after, entry_of_text, entry_of_words, faulty};
 ghost use Rattle.records.specs.Readings.{is_counts_line, read_last, recorded_event_of};
 ghost use Rattle.records.specs.Texts.{calls_text, counts_line, entry_text};
 
@@ -119,7 +119,7 @@ fn is_last(text: &[u8]) -> bool
 /// Whether the text ends behind the last line, which has this number.
 fn end(mut lines: Lines<'_>, number: usize) -> Result<(), CallsFault>
     requires { number + length lines < 2 ^ 64 }
-    ensures { (calls : RecordedCalls) → ReadsCalls (λ done. calls) result (ends_behind calls number lines.entry) }
+    ensures { (calls : RecordedCalls) → ReadsCalls (λ done. calls) result (ends_after calls number lines.entry) }
 {
     let Some(line) = lines.next() else {
         return Ok(());
@@ -150,10 +150,10 @@ fn read_last(
 }
 
 /// The entries of the lines behind the first one.
-#[tactic(auto, unfolding(crate::specs::Readings::calls_behind))]
+#[tactic(auto, unfolding(crate::specs::Readings::calls_after))]
 fn read_entries(alloc: Global, mut lines: Lines<'_>) -> Result<Vec<Entry>, CallsFault>
     requires { 1 + length lines < 2 ^ 64 }
-    ensures { ReadsCalls (λ entries. calls_seen entries.items) result (calls_behind lines.entry 1 []) }
+    ensures { ReadsCalls (λ entries. calls_seen entries.items) result (calls_after lines.entry 1 []) }
 {
     let mut entries = Vec::new(alloc);
     let mut number = 1;

@@ -6,7 +6,7 @@ ghost use Rattle.records.specs.OperandViews.{operand_seen};
 ghost use Rattle.records.specs.Calls.{A_command_set, A_path, A_right_set, Open_flags, are_of_kinds, is_of_kind, is_real_operand};
 
 use crate::operands::Operand;
-use crate::sets::{read_commands, read_rights};
+use call_facts::sets::{read_commands, read_rights};
 use rights::OpenFlags;
 use std::alloc::{AllocError, Global};
 

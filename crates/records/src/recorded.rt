@@ -2,12 +2,12 @@
 
 ghost use Rattle.std.specs.Prelude.{◌≡◌, IfOk, length, true};
 ghost use Rattle.texts.specs.Lines.{lines_of};
-ghost use Rattle.records.specs.Accounts.{ListTheOthers};
+ghost use Rattle.records.specs.LineAccounts.{ListTheOthers};
 ghost use Rattle.records.specs.Calls.{are_calls};
 ghost use Rattle.records.specs.EntryViews.{calls_seen};
 
-use crate::accounts::{accounts_of, line_number, marked};
 use crate::entries::Entry;
+use crate::line_accounts::{accounts_of, line_number, marked};
 use crate::reader::Reader;
 use crate::strace::{StraceLine, read_strace};
 use std::alloc::{AllocError, Global};

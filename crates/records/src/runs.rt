@@ -14,6 +14,7 @@ use crate::other_rights::OtherRight;
 use crate::real_calls::{Given, operands_of};
 use crate::seen_calls::{SeenCall, Through};
 use crate::wants::omit_unknown;
+use call_facts::{Passed, passed_by};
 use rights::Call;
 use std::alloc::AllocError;
 
@@ -60,8 +61,8 @@ impl Run {
         outcome: Outcome,
         stream: Option<Mention<'_>>,
     ) -> Option<u32> {
-        match (call, outcome, stream) {
-            (Call::Read | Call::Write, Outcome::Success(bytes), Some(stream))
+        match (passed_by(call), outcome, stream) {
+            (Passed::ByteIn | Passed::ByteOut, Outcome::Success(bytes), Some(stream))
                 if self.known.is_end(stream) => { Some(bytes) }
             _ => None,
         }

@@ -10,7 +10,7 @@ use crate::logs::CallName;
 use crate::strace_headers::header_of;
 use crate::strace_results::{CallResult, result_of};
 use crate::strace_texts::{
-    after, before, between, number_after, place_of, same_bytes, without_spaces,
+    after, before, between, number_after, offset_of, same_bytes, without_spaces,
 };
 use crate::truss::{self, read_truss_line};
 use std::alloc::{AllocError, Global};
@@ -132,7 +132,7 @@ fn unfinished(text: &[u8]) -> Option<&[u8]> {
     let Some(rest) = before(text, b" attached") else {
         return None;
     };
-    match place_of(rest, b"strace: Process ") {
+    match offset_of(rest, b"strace: Process ") {
         Some(at) => Some(&rest[..at]),
         None => None,
     }

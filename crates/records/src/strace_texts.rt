@@ -60,7 +60,7 @@ pub(crate) fn number_after(text: &[u8], beginning: &[u8]) -> Option<u32> {
 }
 
 /// Where a text first has these bytes.
-pub(crate) fn place_of(text: &[u8], bytes: &[u8]) -> Option<usize>
+pub(crate) fn offset_of(text: &[u8], bytes: &[u8]) -> Option<usize>
     ensures { IfSome result (λ at. at ≤ length text.now) }
 {
     for at in 0..text.len() {

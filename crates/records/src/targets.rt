@@ -1,7 +1,7 @@
 //! What the names of calls stand at.
 
 use crate::argument_values::{Mention, here_note, place_note};
-use crate::held::Kept;
+use crate::held::Referent;
 use crate::known::Known;
 use crate::seen_calls::SeenCall;
 use crate::strace_texts::between;
@@ -10,30 +10,30 @@ use texts::{Page, first_part};
 
 /// Which arguments of a call a name is: a path, counted from a directory if there is one, else from the current one.
 #[derive(Clone, Copy)]
-pub(crate) struct Naming {
+pub(crate) struct PathArgument {
     pub base: Option<usize>,
     pub path: usize,
 }
 
 /// The first argument, from the current directory.
-pub(crate) const HERE: Naming = Naming {
+pub(crate) const HERE: PathArgument = PathArgument {
     base: None,
     path: 0,
 };
 
 /// The second argument, from the directory that the first one is.
-pub(crate) const AT: Naming = Naming {
+pub(crate) const AT: PathArgument = PathArgument {
     base: Some(0),
     path: 1,
 };
 
 /// The same of the new name of a rename.
-pub(crate) const NEW_HERE: Naming = Naming {
+pub(crate) const NEW_HERE: PathArgument = PathArgument {
     base: None,
     path: 1,
 };
 
-pub(crate) const NEW_AT: Naming = Naming {
+pub(crate) const NEW_AT: PathArgument = PathArgument {
     base: Some(2),
     path: 3,
 };
@@ -79,7 +79,13 @@ impl Known {
     }
 
     /// Finds what a path stands at.
-    fn find<'t>(&self, target: &mut Target<'t>, seen: &SeenCall<'t>, naming: Naming, path: &Page) {
+    fn find<'t>(
+        &self,
+        target: &mut Target<'t>,
+        seen: &SeenCall<'t>,
+        naming: PathArgument,
+        path: &Page,
+    ) {
         let mut note: &[u8] = b"";
         if let (Some(base), false) = (naming.base, path.as_bytes().starts_with(b"/")) {
             match here_note(seen.argument(base)) {
@@ -95,7 +101,7 @@ impl Known {
     }
 
     /// What a name of a call stands at, which is known where the string was written whole and isn't empty.
-    pub(crate) fn target<'t>(&mut self, seen: &SeenCall<'t>, naming: Naming) -> Target<'t> {
+    pub(crate) fn target<'t>(&mut self, seen: &SeenCall<'t>, naming: PathArgument) -> Target<'t> {
         let mut target = Target {
             is_known: false,
             base: None,
@@ -161,18 +167,18 @@ impl Known {
     }
 
     /// What a name stands at, as it is kept.
-    pub(crate) fn kept_at(&mut self, target: &Target<'_>) -> Kept {
+    pub(crate) fn kept_at(&mut self, target: &Target<'_>) -> Referent {
         let mut place = Page::new(self.alloc);
         if let Some(base) = target.base {
             let Some(directory) = self.place_of(self.process.table.kept(base.number)) else {
-                return Kept::Unknown;
+                return Referent::Unknown;
             };
             place.page(directory);
             add_beneath(&mut place, &target.path);
         } else if target.is_known {
             place.page(&target.path);
         } else {
-            return Kept::Unknown;
+            return Referent::Unknown;
         }
         self.note(&place);
         let tidy = self.tidied(&place);
@@ -180,7 +186,7 @@ impl Known {
     }
 
     /// What the first argument of a call names, as it is kept.
-    pub(crate) fn kept_named(&mut self, seen: &SeenCall<'_>) -> Kept {
+    pub(crate) fn kept_named(&mut self, seen: &SeenCall<'_>) -> Referent {
         let target = self.target(seen, HERE);
         self.kept_at(&target)
     }

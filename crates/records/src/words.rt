@@ -13,11 +13,12 @@ ghost use Rattle.std.specs.Prelude.{option_map};
 use crate::bindings::read_bindings;
 use crate::entries::{Event, LeftOut, MadeCall, Outcome, Span, WantedRight};
 use crate::faults::LineFault;
-use crate::operands::{Kind, Operand, operand_kinds};
+use crate::names;
+use crate::operands::{Kind, Operand, kind_of};
 use crate::quoting::unquoted;
 use crate::strace_texts::{is_name, same_bytes};
 use crate::taking::Rest;
-use crate::{names, sets};
+use call_facts::{roles_of, sets};
 use rights::Call;
 use std::alloc::Global;
 use texts::number_up_to;
@@ -57,7 +58,10 @@ fn take_operand(alloc: Global, words: &mut Rest<'_>, kind: Kind) -> Result<Opera
     match kind {
         Kind::Number => Ok(Operand::Number(number(word)?)),
         Kind::Path => Ok(Operand::Path(unquoted(alloc, word)?)),
-        Kind::Flags => Ok(Operand::Flags(sets::read_flags(word)?)),
+        Kind::Flags => match sets::read_flags(word) {
+            Some(flags) => Ok(Operand::Flags(flags)),
+            None => Err(LineFault::Form),
+        },
         Kind::Rights => Ok(Operand::Rights(sets::read_rights(word))),
         // A `Directory` was taken above.
         Kind::Commands | Kind::Directory => Ok(Operand::Commands(sets::read_commands(word))),
@@ -69,10 +73,10 @@ fn take_operand(alloc: Global, words: &mut Rest<'_>, kind: Kind) -> Result<Opera
 fn take_operands(alloc: Global, words: &mut Rest<'_>, call: Call) -> Result<Vec<Operand>, LineFault>
     ensures { Takes (operands_at (call_of call)) (λ operands. map operand_seen operands.items) result words.old words.new }
 {
-    let kinds = operand_kinds(call);
+    let roles = roles_of(call);
     let mut operands = Vec::new(alloc);
-    for kind in kinds {
-        operands.push(take_operand(alloc, words, *kind)?)?;
+    for role in roles {
+        operands.push(take_operand(alloc, words, kind_of(*role))?)?;
     }
     Ok(operands)
 }

@@ -6,3 +6,4 @@ mod ListedRows
 pub mod BeyondRows
 mod UnneededRows
 mod WarningRows
+mod CallLaws

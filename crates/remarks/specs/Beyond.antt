@@ -6,9 +6,9 @@ use Rattle.instruction_set.specs.Programs.{Instruction}
 use Rattle.remarks.specs.Remarks.{bound_here, is_halt}
 use Rattle.remarks.specs.Ways.{points}
 use Rattle.rights.specs.Values.{DescriptorNumber, Name, RightSet}
-use Rattle.rights.specs.Operations.{Operation}
+use Rattle.rights.specs.Operations.{operations_of_rights, Operation}
 use Rattle.rights.specs.Sets.{is_within}
-use Rattle.rules.specs.Authority.{keeps_ceiling, operations_of_rights}
+use Rattle.rules.specs.Authority.{keeps_ceiling}
 use Rattle.rules.specs.Slots.{may_be_on}
 use Rattle.task.specs.Plans.{Grant}
 

@@ -9,7 +9,10 @@ use Rattle.rights.specs.Values.{Name}
 use Rattle.file_tree.specs.Nodes.{Node, is_link}
 use Rattle.file_tree.specs.Places.{begins}
 use Rattle.lookup.specs.Paths.{last_component}
-use Rattle.instruction_set.specs.Programs.{Instruction, Invoke, Renameat}
+use Rattle.instruction_set.specs.Programs.{Instruction, Invoke, called}
+use Rattle.call_facts.specs.Arguments.{second_path}
+use Rattle.call_facts.specs.Facts.{moves_name}
+use Rattle.rights.specs.Values.{PathText}
 use Rattle.task.specs.Plans.{Grant, NamedProgram, Plan, none_marked}
 
 abbrev pub is_last_name : Name → Option Name → Bool
@@ -20,9 +23,14 @@ is_last_name name (Some other) = bytes_eq other name
 abbrev pub is_link_of : Name → Node → Bool
 is_link_of name n = is_link n.kind && is_last_name name (slice_get n.place (length n.place - 1))
 
+-- a path that ends with this name
+abbrev pub ends_as : Name → Option PathText → Bool
+ends_as name None = false
+ends_as name (Some path) = bytes_eq (last_component path) name
+
 -- the call gives this name to what it moves
 abbrev pub gives_name : Name → Instruction → Bool
-gives_name name (Invoke (Renameat x from y to) otherwise) = bytes_eq (last_component to) name
+gives_name name (Invoke call otherwise) = moves_name (called call) && ends_as name (second_path call)
 gives_name name _ = false
 
 abbrev pub may_give : Name → NamedProgram → Bool
@@ -34,7 +42,7 @@ abbrev pub is_link_in : Grant → Node → Bool
 is_link_in g n = is_link n.kind && begins g.path n.place
 
 abbrev pub is_rename : Instruction → Bool
-is_rename (Invoke (Renameat x from y to) otherwise) = true
+is_rename (Invoke call otherwise) = moves_name (called call)
 is_rename _ = false
 
 abbrev pub has_rename : NamedProgram → Bool

@@ -28,7 +28,7 @@ bounds_of bounds = map (option_map bound_of) bounds
 -- a path beneath a descriptor, if there is one, and those of a call
 abbrev pub look_of : Option LookCode → List Lookup
 look_of None = []
-look_of (Some look) = one_beneath (operand_of look.descriptor) look.path.now
+look_of (Some look) = one_beneath (Some (operand_of look.descriptor)) (Some look.path.now)
 
 abbrev pub beneath_of : Looks → List Lookup
 beneath_of looks = look_of looks.first ++ look_of looks.second

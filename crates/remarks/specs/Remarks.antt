@@ -7,7 +7,10 @@ use Rattle.rights.specs.Sides.{other_side}
 use Rattle.certificate.specs.Bounds.{Bound, ModeBound, Off, On, Either, Held, Target, In_grant, Any_node, Socket, Unknown, held_in, slot}
 use Rattle.certificate.specs.Describes.{interval_describes}
 use Rattle.certificate.specs.Order.{same_class}
-use Rattle.instruction_set.specs.Programs.{Instruction, Jeq, Jlt, Halt, Invoke, Operand, Close, Fork}
+use Rattle.instruction_set.specs.Programs.{Instruction, Jeq, Jlt, Halt, Invoke, Operand, called}
+use Rattle.call_facts.specs.Arguments.{first_operand}
+use Rattle.call_facts.specs.Facts.{forks, frees}
+use Rattle.std.specs.Option.{option_map_or}
 use Rattle.instruction_set.specs.Successors.{successors_at}
 use Rattle.rules.specs.Needs.{Through, Passed, Nothing, Sent, Received, needs}
 use Rattle.rules.specs.Outcomes.{enters_mode}
@@ -133,7 +136,7 @@ abbrev pub is_led_by : List Instruction → (ℕ → Bool) → ℕ → Bool
 is_led_by code test point = list_any (λ before. test before && list_any (λ to. to == point) (successors_at code before)) (points code)
 
 abbrev pub is_fork : Instruction → Bool
-is_fork (Invoke Fork otherwise) = true
+is_fork (Invoke call otherwise) = forks (called call)
 is_fork _ = false
 
 -- a choice right behind a fork: parent and child part there
@@ -167,7 +170,7 @@ abbrev pub has_both : List (Option Bound) → DescriptorNumber → DescriptorNum
 has_both bounds n m point = are_both (held_here bounds n point) (held_here bounds m point)
 
 abbrev pub may_close : DescriptorNumber → Option Bound → Instruction → Bool
-may_close n (Some b) (Invoke (Close x) otherwise) = may_be_number b n x
+may_close n (Some b) (Invoke call otherwise) = frees (called call) && option_map_or (may_be_number b n) (first_operand call) false
 may_close n _ _ = false
 
 abbrev pub closing_points : List Instruction → List (Option Bound) → DescriptorNumber → List Bool

@@ -1,8 +1,10 @@
 -- Where FreeBSD does otherwise than the model, at the points of a program that it matters to: each is a fact of a point, its instruction
 -- and its bound. (own, after open(2), cap_enter(2), cap_rights_limit(2), cap_fcntls_limit(2), close(2); what isn't in a page is remembered)
-use Rattle.std.specs.Prelude.{◌&&◌, ◌||◌, ◌==◌, not, ℕ, Bool, true, false, if◌then◌else◌, List, [], ◌∷◌, Option, Some, None, codes, filter, is_some, map}
+use Rattle.std.specs.Prelude.{◌&&◌, ◌||◌, ◌==◌, not, ℕ, Bool, true, false, if◌then◌else◌, List, [], ◌∷◌, ◌++◌, Option, Some, None, codes, filter, is_some, map}
 use Rattle.std.specs.List.{list_all, list_any, range_with_len}
+use Rattle.std.specs.Option.{option_map_or}
 use Rattle.std.specs.Str.{bytes_eq}
+use Rattle.rights.specs.Opens.{OpenRequest}
 use Rattle.rights.specs.OperationLists.{lists}
 use Rattle.rights.specs.Operations.{Look}
 use Rattle.rights.specs.Sets.{all_commands, all_rights, fcntl_right, is_within, lookup_right, read_right}
@@ -11,7 +13,9 @@ use Rattle.file_tree.specs.Nodes.{Node, is_dir, node}
 use Rattle.file_tree.specs.Places.{begins, slash}
 use Rattle.lookup.specs.Paths.{is_absolute}
 use Rattle.certificate.specs.Bounds.{Bound, Ceiling, Certificate, bound_at, Held, ModeBound, Off, On, Either, Slot, Target, In_grant, Any_node, Socket, Unknown, held_in}
-use Rattle.instruction_set.specs.Programs.{Instruction, Invoke, Operand, Syscall, Openat, Fstatat, Mkdirat, Unlinkat, Renameat, Cap_fcntls_limit, Cap_enter, Cap_getmode, Close}
+use Rattle.instruction_set.specs.Programs.{Instruction, Invoke, Operand, Syscall, called}
+use Rattle.call_facts.specs.Arguments.{Argument, Descriptor, Commands, arguments, first_operand, first_path, opening_flags, second_operand, second_path}
+use Rattle.call_facts.specs.Facts.{concerns_mode, frees}
 use Rattle.rights.specs.Limits.{most_descriptors}
 use Rattle.rules.specs.Authority.{authority_at}
 use Rattle.rules.specs.Demands.{demands}
@@ -29,16 +33,12 @@ pub record Lookup : Type 0 where
   pub descriptor : Operand
   pub path : PathText
 
-abbrev pub one_beneath : Operand → PathText → List Lookup
-one_beneath x path = record { descriptor = x; path = path } ∷ []
+abbrev pub one_beneath : Option Operand → Option PathText → List Lookup
+one_beneath (Some x) (Some path) = record { descriptor = x; path = path } ∷ []
+one_beneath _ _ = []
 
 abbrev pub beneath : Syscall → List Lookup
-beneath (Openat x path f) = one_beneath x path
-beneath (Fstatat x path) = one_beneath x path
-beneath (Mkdirat x path) = one_beneath x path
-beneath (Unlinkat x path directory) = one_beneath x path
-beneath (Renameat x from y to) = record { descriptor = x; path = from } ∷ one_beneath y to
-beneath _ = []
+beneath call = one_beneath (first_operand call) (first_path call) ++ one_beneath (second_operand call) (second_path call)
 
 abbrev pub may_be_off : ModeBound → Bool
 may_be_off Off = true
@@ -70,15 +70,22 @@ goes_out plan b call =
     may_be_off b.mode && list_any (λ (q : Lookup). leads_out plan q.path && not (are_limited b q.descriptor)) (beneath call)
 
 -- outside the mode a file is made where a last link leads, beneath such a directory
+abbrev pub creates : Option OpenRequest → Bool
+creates None = false
+creates (Some f) = f.create
+
 abbrev pub makes_beyond : Bound → Syscall → Bool
-makes_beyond b (Openat x path f) = may_be_off b.mode && f.create && not (are_limited b x)
-makes_beyond b _ = false
+makes_beyond b call =
+    may_be_off b.mode && creates (opening_flags call) && option_map_or (λ x. not (are_limited b x)) (first_operand call) false
 
 -- a limit of commands is refused once FCNTL is gone
-abbrev pub limits_nothing : Bound → Syscall → Bool
-limits_nothing b (Cap_fcntls_limit x commands) =
+abbrev pub limits_nothing_by : Bound → List Argument → Bool
+limits_nothing_by b (Descriptor x ∷ Commands commands ∷ []) =
     not (commands == 0) && not (list_all (λ (s : OpenSlot). is_within fcntl_right s.held.least) (slots_in b x))
-limits_nothing b _ = false
+limits_nothing_by b _ = false
+
+abbrev pub limits_nothing : Bound → Syscall → Bool
+limits_nothing b call = limits_nothing_by b (arguments call)
 
 -- a call takes a number, and all may be open
 abbrev pub are_all_open : List Slot → Bool
@@ -116,12 +123,11 @@ abbrev pub calling_points : List Instruction → List Bool
 calling_points code = map (is_there code is_call) (points code)
 
 abbrev pub goes_on_closing : List Bool → Instruction → Bool
-goes_on_closing calls (Invoke (Close x) otherwise) = is_flagged calls otherwise
+goes_on_closing calls (Invoke call otherwise) = frees (called call) && is_flagged calls otherwise
 goes_on_closing calls _ = false
 
 abbrev pub goes_on_entering : List Bool → Instruction → Bool
-goes_on_entering calls (Invoke Cap_enter otherwise) = is_flagged calls otherwise
-goes_on_entering calls (Invoke Cap_getmode otherwise) = is_flagged calls otherwise
+goes_on_entering calls (Invoke call otherwise) = concerns_mode (called call) && is_flagged calls otherwise
 goes_on_entering calls _ = false
 
 -- what a call at a point with a bound may be otherwise by

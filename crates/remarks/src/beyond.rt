@@ -13,25 +13,11 @@ ghost use Rattle.texts.specs.Views.{name_of};
 use certificate::{Bound, Ceiling, Held, Target};
 use checker::allowances::keeps_ceiling;
 use instruction_set::Instruction;
-use rights::Rights;
+use rights::{RightOperation, Rights, operations_of_rights};
 use std::alloc::{AllocError, Global};
 use task::Grant;
 use texts::Name;
 use transfer::may_be_on;
-
-/// The rights that are for an operation of the policy.
-const RIGHTS_OF_OPERATIONS: [Rights; 10] = [
-    Rights::READ,
-    Rights::WRITE,
-    Rights::FTRUNCATE,
-    Rights::FSTAT,
-    Rights::CREATE,
-    Rights::FSTATAT,
-    Rights::MKDIRAT,
-    Rights::UNLINKAT,
-    Rights::RENAMEAT_SOURCE,
-    Rights::RENAMEAT_TARGET,
-];
 
 /// Whether a right alone is for what a grant doesn't list.
 fn is_unlisted(grants: &[Grant], grant: &Name, right: Rights) -> bool
@@ -42,16 +28,16 @@ fn is_unlisted(grants: &[Grant], grant: &Name, right: Rights) -> bool
 }
 
 /// Of some rights those that are held and for what the grant doesn't list.
-fn unlisted_among(grants: &[Grant], grant: &Name, held: Rights, rights: &[Rights]) -> Rights
-    requires { All (λ r. is_ceiling r.0 ≡ true) rights.now }
-    ensures { result.0 ≡ unlisted_among (grants_of grants.now) (name_of grant.now) held.0 (map (λ r. r.0) rights.now) }
+fn unlisted_among(grants: &[Grant], grant: &Name, held: Rights, rows: &[RightOperation]) -> Rights
+    requires { All (λ o. is_ceiling o.right.0 ≡ true) rows.now }
+    ensures { result.0 ≡ unlisted_among (grants_of grants.now) (name_of grant.now) held.0 (map (λ o. o.right.0) rows.now) }
 {
-    match rights {
+    match rows {
         [] => Rights::empty(),
         [first, rest @ ..] => {
             let others = unlisted_among(grants, grant, held, rest);
-            if held.contains(*first) && is_unlisted(grants, grant, *first) {
-                first.union(others)
+            if held.contains(first.right) && is_unlisted(grants, grant, first.right) {
+                first.right.union(others)
             } else {
                 others
             }
@@ -63,7 +49,7 @@ fn unlisted_among(grants: &[Grant], grant: &Name, held: Rights, rights: &[Rights
 pub fn unlisted_rights(grants: &[Grant], grant: &Name, held: Rights) -> Rights
     ensures { result.0 ≡ unlisted_among (grants_of grants.now) (name_of grant.now) held.0 rights_of_operations }
 {
-    unlisted_among(grants, grant, held, &RIGHTS_OF_OPERATIONS)
+    unlisted_among(grants, grant, held, operations_of_rights())
 }
 
 /// The rights that a number may have beyond what its grant lists. Of what lies in no grant, or is an end of a pair, none are. (rights(4); own)
@@ -71,14 +57,7 @@ pub fn rights_beyond(grants: &[Grant], held: &Held) -> Rights
     ensures { result.0 ≡ rights_beyond (grants_of grants.now) (held_of held.now) }
 {
     match held.target() {
-        Target::InGrant(grant) => {
-            unlisted_among(
-                grants,
-                &grant,
-                held.rights().greatest(),
-                &RIGHTS_OF_OPERATIONS,
-            )
-        }
+        Target::InGrant(grant) => { unlisted_rights(grants, &grant, held.rights().greatest()) }
         Target::AnyNode | Target::Socket(..) | Target::Unknown => Rights::empty(),
     }
 }

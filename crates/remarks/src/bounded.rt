@@ -1,7 +1,8 @@
 //! A program whose points have bounds, and at which of them something holds.
 
-ghost use Rattle.std.specs.Prelude.{◌≡◌, ◌&&◌, ◌||◌, ◌==◌, ◌<◌, IfOk, filter, map, not, option_map, true};
+ghost use Rattle.std.specs.Prelude.{◌≡◌, ◌&&◌, ◌||◌, ◌==◌, ◌<◌, IfOk, false, filter, map, not, option_map, true};
 ghost use Rattle.std.specs.List.{list_any};
+ghost use Rattle.std.specs.Option.{option_map_or};
 ghost use Rattle.certificate.specs.Views.{bound_of, held_of, target_of};
 ghost use Rattle.remarks.specs.PointViews.{holds};
 ghost use Rattle.remarks.specs.RemarkViews.{bounds_of};
@@ -16,8 +17,9 @@ ghost use Rattle.transfer.specs.Views.{through_of};
 
 use crate::point_test::PointTest;
 use crate::ways::{count, from_which, is_flagged};
+use call_facts::{first_operand, forks, frees};
 use certificate::{Bound, Domain, Held, ModeBound, Target};
-use instruction_set::{Instruction, Operand, Successors, Syscall, successors_at};
+use instruction_set::{Instruction, Operand, Successors, successors_at};
 use std::alloc::{AllocError, Global};
 use transfer::{Passed, Through, enters_mode, may_be_on, needed, operand_interval};
 
@@ -80,18 +82,34 @@ fn may_name_number(bound: Option<&Bound>, instruction: &Instruction, number: u32
     }
 }
 
+/// Whether an instruction makes a process.
+fn is_fork(instruction: &Instruction) -> bool
+    ensures { result ≡ is_fork (instruction_of instruction.now) }
+{
+    match instruction {
+        Instruction::Invoke { call, .. } => forks(call.call()),
+        _ => false,
+    }
+}
+
+/// Whether there is an operand, and it may be a number.
+fn may_be_operand(bound: &Bound, operand: Option<Operand>, number: u32) -> bool
+    ensures { result ≡ option_map_or (may_be_number (bound_of bound.now) number) (option_map operand_of operand) false }
+{
+    match operand {
+        None => false,
+        Some(operand) => may_be_number(bound, operand, number),
+    }
+}
+
 /// Whether an instruction may close a number.
 fn may_close(bound: Option<&Bound>, instruction: &Instruction, number: u32) -> bool
     ensures { result ≡ may_close number (option_map (λ b. bound_of b.now) bound.entry) (instruction_of instruction.now) }
 {
     match (bound, instruction) {
-        (
-            Some(bound),
-            Instruction::Invoke {
-                call: Syscall::Close { descriptor },
-                ..
-            },
-        ) => may_be_number(bound, *descriptor, number),
+        (Some(bound), Instruction::Invoke { call, .. }) => {
+            frees(call.call()) && may_be_operand(bound, first_operand(call), number)
+        }
         _ => false,
     }
 }
@@ -278,13 +296,7 @@ impl<'a> Bounded<'a> {
     {
         match self.code.get(point) {
             None => false,
-            Some(instruction) => matches!(
-                instruction,
-                Instruction::Invoke {
-                    call: Syscall::Fork,
-                    ..
-                }
-            ),
+            Some(instruction) => is_fork(instruction),
         }
     }
 

@@ -1,14 +1,15 @@
 //! Which names a link of a task may have: its own where the task starts, and what a rename may give it.
 
-ghost use Rattle.std.specs.Prelude.{◌≡◌};
+ghost use Rattle.std.specs.Prelude.{◌≡◌, option_map};
 ghost use Rattle.std.specs.List.{list_any};
 ghost use Rattle.file_tree.specs.Nodes.{is_link};
 ghost use Rattle.instruction_set.specs.Views.{code_of, instruction_of};
-ghost use Rattle.remarks.specs.LinkNames.{frees_names, gives_all_names, gives_name, has_rename, is_link_in, is_link_of, is_rename, may_give, names_link};
+ghost use Rattle.remarks.specs.LinkNames.{ends_as, frees_names, gives_all_names, gives_name, has_rename, is_link_in, is_link_of, is_rename, may_give, names_link};
 ghost use Rattle.task.specs.Views.{grant_of, grants_of, node_of, nodes_of, programs_of};
 
+use call_facts::{moves_name, second_path};
 use file_tree::Kind;
-use instruction_set::{Instruction, Syscall};
+use instruction_set::Instruction;
 use lookup::last_name;
 use rights::Op;
 use task::{Grant, NamedProgram, Task, TaskNode, none_marked};
@@ -40,15 +41,24 @@ fn has_link(nodes: &[TaskNode]) -> bool
     }
 }
 
+/// Whether there is a path, and it ends with a name.
+fn ends_as(name: &[u8], path: Option<&[u8]>) -> bool
+    ensures { result ≡ ends_as name.now (option_map (λ p. p.now) path.entry) }
+{
+    match path {
+        None => false,
+        Some(path) => last_name(path) == name,
+    }
+}
+
 /// Whether an instruction is a rename that gives a name.
 fn gives_name(name: &[u8], instruction: &Instruction) -> bool
     ensures { result ≡ gives_name name.now (instruction_of instruction.now) }
 {
     match instruction {
-        Instruction::Invoke {
-            call: Syscall::Renameat { new_path, .. },
-            ..
-        } => last_name(new_path.bytes()) == name,
+        Instruction::Invoke { call, .. } => {
+            moves_name(call.call()) && ends_as(name, second_path(call))
+        }
         _ => false,
     }
 }
@@ -86,21 +96,23 @@ fn has_link_in(grant: &Grant, nodes: &[TaskNode]) -> bool
     }
 }
 
+/// Whether an instruction is a rename.
+fn is_rename(instruction: &Instruction) -> bool
+    ensures { result ≡ is_rename (instruction_of instruction.now) }
+{
+    match instruction {
+        Instruction::Invoke { call, .. } => moves_name(call.call()),
+        _ => false,
+    }
+}
+
 /// Whether one of some instructions is a rename.
 fn any_renames(code: &[Instruction]) -> bool
     ensures { result ≡ list_any is_rename (code_of code.now) }
 {
     match code {
         [] => false,
-        [first, rest @ ..] => {
-            matches!(
-                first,
-                Instruction::Invoke {
-                    call: Syscall::Renameat { .. },
-                    ..
-                }
-            ) || any_renames(rest)
-        }
+        [first, rest @ ..] => { is_rename(first) || any_renames(rest) }
     }
 }
 

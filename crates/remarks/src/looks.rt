@@ -1,21 +1,27 @@
 //! What a call looks up beneath a descriptor, and what of it is otherwise in FreeBSD. (docs/FREEBSD.md)
 
-ghost use Rattle.std.specs.Prelude.{◌≡◌, ◌&&◌, ◌||◌, ◌==◌, None, Some, map, not, option_map};
+ghost use Rattle.std.specs.Prelude.{◌≡◌, ◌&&◌, ◌||◌, ◌==◌, ◌∷◌, [], None, Some, false, map, not, option_map};
 ghost use Rattle.std.specs.List.{list_all, list_any};
+ghost use Rattle.std.specs.Option.{option_map_or};
+ghost use Rattle.call_facts.specs.ArgumentViews.{argument_seen};
 ghost use Rattle.certificate.specs.Views.{bound_of, held_of, mode_of, slot_of, target_of};
 ghost use Rattle.instruction_set.specs.Views.{operand_of, syscall_of};
 ghost use Rattle.remarks.specs.RemarkViews.{beneath_of, look_of};
 ghost use Rattle.lookup.specs.Paths.{is_absolute};
-ghost use Rattle.remarks.specs.Warnings.{are_all_open, are_limited, are_open_but_one, beneath, goes_out, is_unlimited, leads_out, lets_look};
-ghost use Rattle.remarks.specs.Warnings.{limits_nothing, looks_unlisted, makes_beyond, may_be_off, name_leads_out, passes_by, takes_beyond, takes_one_beyond};
+ghost use Rattle.remarks.specs.Warnings.{are_all_open, are_limited, are_open_but_one, beneath, creates, goes_out, is_unlimited, leads_out, lets_look};
+ghost use Rattle.remarks.specs.Warnings.{limits_nothing, limits_nothing_by, looks_unlisted, makes_beyond, may_be_off, name_leads_out, one_beneath, passes_by, takes_beyond, takes_one_beyond};
 ghost use Rattle.rights.specs.Sets.{fcntl_right, is_within};
 ghost use Rattle.rules.specs.Slots.{slots_in};
 ghost use Rattle.task.specs.Views.{grants_of};
 
 use crate::link_names::names_link;
+use call_facts::{
+    Argument, Arguments, arguments_of, first_operand, first_path, opening_flags, second_operand,
+    second_path,
+};
 use certificate::{Bound, Held, ModeBound, Slot, Target};
 use instruction_set::{Operand, Syscall};
-use rights::{Fcntls, Op, Rights};
+use rights::{Fcntls, Op, OpenFlags, Rights};
 use task::{Grant, Task, grant_lists};
 use texts::first_part;
 use transfer::{SlotTest, Takes, all_slots_pass, demanded, may_be_on};
@@ -34,13 +40,16 @@ pub(crate) struct Looks<'a> {
     pub second: Option<Look<'a>>,
 }
 
-/// One path beneath one descriptor.
-fn one<'a>(descriptor: Operand, path: &'a [u8]) -> Looks<'a>
-    ensures { result ≡ record { first = Some (record { descriptor = descriptor; path = path.entry }); second = None } }
+/// A path beneath a descriptor, if there are both.
+fn look_of<'a>(descriptor: Option<Operand>, path: Option<&'a [u8]>) -> Option<Look<'a>>
+    ensures { look_of result ≡ one_beneath (option_map operand_of descriptor) (option_map (λ p. p.now) path.entry) }
 {
-    Looks {
-        first: Some(Look { descriptor, path }),
-        second: None,
+    match descriptor {
+        None => None,
+        Some(descriptor) => match path {
+            None => None,
+            Some(path) => Some(Look { descriptor, path }),
+        },
     }
 }
 
@@ -48,38 +57,9 @@ fn one<'a>(descriptor: Operand, path: &'a [u8]) -> Looks<'a>
 fn beneath(call: &Syscall) -> Looks<'_>
     ensures { beneath_of result ≡ beneath (syscall_of call.now) }
 {
-    match call {
-        Syscall::Openat {
-            descriptor,
-            path,
-            ..
-        }
-        | Syscall::Fstatat { descriptor, path }
-        | Syscall::Mkdirat { descriptor, path }
-        | Syscall::Unlinkat {
-            descriptor,
-            path,
-            ..
-        } => one(*descriptor, path.bytes()),
-        Syscall::Renameat {
-            descriptor,
-            path,
-            target,
-            new_path,
-        } => Looks {
-            first: Some(Look {
-                descriptor: *descriptor,
-                path: path.bytes(),
-            }),
-            second: Some(Look {
-                descriptor: *target,
-                path: new_path.bytes(),
-            }),
-        },
-        _ => Looks {
-            first: None,
-            second: None,
-        },
+    Looks {
+        first: look_of(first_operand(call), first_path(call)),
+        second: look_of(second_operand(call), second_path(call)),
     }
 }
 
@@ -216,16 +196,43 @@ pub(crate) fn goes_out(task: &Task, bound: &Bound, call: &Syscall) -> bool
         && (look_goes_out(task, bound, &looks.first) || look_goes_out(task, bound, &looks.second))
 }
 
+/// Whether a file is made where there is none.
+fn creates(flags: Option<OpenFlags>) -> bool
+    ensures { result ≡ creates flags }
+{
+    match flags {
+        None => false,
+        Some(flags) => flags.create(),
+    }
+}
+
+/// Whether there is a descriptor, and it isn't limited.
+fn goes_by_unlimited(bound: &Bound, descriptor: Option<Operand>) -> bool
+    ensures { result ≡ option_map_or (λ x. not (are_limited (bound_of bound.now) x)) (option_map operand_of descriptor) false }
+{
+    match descriptor {
+        None => false,
+        Some(descriptor) => !are_limited(bound, descriptor),
+    }
+}
+
 /// Whether a call outside the mode may make a file where a last link leads, beneath a directory that isn't limited.
 pub(crate) fn makes_beyond(bound: &Bound, call: &Syscall) -> bool
     ensures { result ≡ makes_beyond (bound_of bound.now) (syscall_of call.now) }
 {
-    match call {
-        Syscall::Openat {
-            descriptor,
-            flags,
-            ..
-        } => may_be_off(bound.mode()) && flags.create() && !are_limited(bound, *descriptor),
+    may_be_off(bound.mode())
+        && creates(opening_flags(call))
+        && goes_by_unlimited(bound, first_operand(call))
+}
+
+/// Whether these arguments limit commands where FCNTL may be gone.
+fn limits_nothing_by(bound: &Bound, first: &Argument<'_>, second: &Argument<'_>) -> bool
+    ensures { result ≡ limits_nothing_by (bound_of bound.now) (argument_seen first.now ∷ argument_seen second.now ∷ []) }
+{
+    match (first, second) {
+        (Argument::Descriptor(descriptor), Argument::Commands(commands)) => {
+            *commands != Fcntls::empty() && !all_slots_pass(bound, *descriptor, &HasFcntl)
+        }
         _ => false,
     }
 }
@@ -234,12 +241,10 @@ pub(crate) fn makes_beyond(bound: &Bound, call: &Syscall) -> bool
 pub(crate) fn limits_nothing(bound: &Bound, call: &Syscall) -> bool
     ensures { result ≡ limits_nothing (bound_of bound.now) (syscall_of call.now) }
 {
-    match call {
-        Syscall::CapFcntlsLimit {
-            descriptor,
-            commands,
-        } => *commands != Fcntls::empty() && !all_slots_pass(bound, *descriptor, &HasFcntl),
-        _ => false,
+    match arguments_of(call) {
+        Arguments::Two(first, second) => limits_nothing_by(bound, &first, &second),
+        Arguments::None | Arguments::One(_) | Arguments::Three(_, _, _) => false,
+        Arguments::Four(_, _, _, _) => false,
     }
 }
 

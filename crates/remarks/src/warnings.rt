@@ -22,6 +22,7 @@ use crate::looks::{
 use crate::point_test::PointTest;
 use crate::remarks::with_bounds;
 use crate::ways::{count, from_which, is_flagged};
+use call_facts::{concerns_mode, frees};
 use certificate::{Authority, Bound, Ceiling, Cert, Held};
 use instruction_set::{Instruction, Syscall};
 use rights::limits::MAX_DESCRIPTORS;
@@ -95,10 +96,9 @@ fn goes_on_closing(calls: &[bool], instruction: &Instruction) -> bool
     ensures { result ≡ goes_on_closing calls.now (instruction_of instruction.now) }
 {
     match instruction {
-        Instruction::Invoke {
-            call: Syscall::Close { .. },
-            otherwise,
-        } => is_flagged(calls, usize::from(*otherwise)),
+        Instruction::Invoke { call, otherwise } => {
+            frees(call.call()) && is_flagged(calls, usize::from(*otherwise))
+        }
         _ => false,
     }
 }
@@ -108,10 +108,9 @@ fn goes_on_entering(calls: &[bool], instruction: &Instruction) -> bool
     ensures { result ≡ goes_on_entering calls.now (instruction_of instruction.now) }
 {
     match instruction {
-        Instruction::Invoke {
-            call: Syscall::CapEnter | Syscall::CapGetmode,
-            otherwise,
-        } => is_flagged(calls, usize::from(*otherwise)),
+        Instruction::Invoke { call, otherwise } => {
+            concerns_mode(call.call()) && is_flagged(calls, usize::from(*otherwise))
+        }
         _ => false,
     }
 }

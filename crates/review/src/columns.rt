@@ -29,7 +29,7 @@ fn points_of(room: &Room, program: &Name, observation: &Observation) -> Page {
 }
 
 /// An observation in a sentence, with a link to its first point.
-fn place_of(room: &mut Room, program: &Name, observation: &Observation) -> Vec<Piece> {
+fn sentence_of(room: &mut Room, program: &Name, observation: &Observation) -> Vec<Piece> {
     let mut sentence = room.list();
     match observation.points.first() {
         None => room.plain(&mut sentence, &line_of(observation)),
@@ -60,7 +60,7 @@ impl Places {
         for observation in observations {
             if is_of(observation, topic) {
                 if self.told.len() < MOST_PLACES {
-                    let sentence = place_of(room, program, observation);
+                    let sentence = sentence_of(room, program, observation);
                     room.push(&mut self.told, sentence);
                 } else {
                     self.more = self.more.saturating_add(1);

@@ -1,6 +1,7 @@
 //! Which step takes what an earlier one sent.
 
 use crate::room::Room;
+use call_facts::{Passed, first_operand, passed_by};
 use fd_table::{End, Files, Object};
 use instruction_set::{Instruction, Operand, Syscall};
 use link_tree::LinkTree;
@@ -138,12 +139,15 @@ pub(crate) fn next_call<'t>(
 
 /// What a process does with a queue by a call that succeeds; nothing where that goes through no end.
 pub(crate) fn traffic_of(machine: &Machine<'_, LinkTree>, number: u8, call: &Syscall) -> Traffic {
-    let (operand, sends, carries) = match call {
-        Syscall::Write { descriptor, .. } => (*descriptor, true, false),
-        Syscall::Sendfd { descriptor, .. } => (*descriptor, true, true),
-        Syscall::Read { descriptor } => (*descriptor, false, false),
-        Syscall::Recvfd { descriptor } => (*descriptor, false, true),
-        _ => return Traffic::Nothing,
+    let (sends, carries) = match passed_by(call.call()) {
+        Passed::ByteOut => (true, false),
+        Passed::DescriptorOut => (true, true),
+        Passed::ByteIn => (false, false),
+        Passed::DescriptorIn => (false, true),
+        Passed::Nothing => return Traffic::Nothing,
+    };
+    let Some(operand) = first_operand(call) else {
+        return Traffic::Nothing;
     };
     let Some(process) = machine.processes().get(usize::from(number)) else {
         return Traffic::Nothing;

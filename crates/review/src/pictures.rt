@@ -11,13 +11,13 @@ use bitflags::Flags;
 use certificate::{Cert, Class, Target as Kind};
 use checker::BrokenRule;
 use explain::add_points;
-use instruction_set::{Instruction, Syscall};
+use instruction_set::Instruction;
 use page::{Half, HalfKind, Note, Picture, Program, Row, Target, Tone};
 use remarks::unlisted_rights;
 use rights::Rights;
 use task::Grant;
 use texts::{Page, Say, parts_of, say};
-use transfer::channel_at;
+use transfer::{channel_at, enters_mode};
 
 /// The classes of pairs, by their numbers: as they come first.
 #[derive(Drop)]
@@ -381,12 +381,10 @@ fn points_text(room: &mut Room, points: &[usize]) -> Vec<u8> {
 /// Whether a program makes processes.
 fn forks(viewed: &Viewed<'_>) -> bool {
     for instruction in viewed.named.program.code() {
-        if let Instruction::Invoke {
-            call: Syscall::Fork,
-            ..
-        } = instruction
-        {
-            return true;
+        if let Instruction::Invoke { call, .. } = instruction {
+            if call_facts::forks(call.call()) {
+                return true;
+            }
         }
     }
     false
@@ -413,11 +411,7 @@ fn entering_text(room: &mut Room, reviewed: &Reviewed<'_>, viewed: &Viewed<'_>) 
     let mut page = Page::new(room.alloc());
     let mut separator = "cap_enter, line ";
     for (point, instruction) in viewed.named.program.code().iter().enumerate() {
-        if let Instruction::Invoke {
-            call: Syscall::CapEnter,
-            ..
-        } = instruction
-        {
+        if enters_mode(instruction) {
             let line = reviewed.scene.written(viewed.number, short(point)).line;
             say!(&mut page; separator, line);
             separator = ", ";

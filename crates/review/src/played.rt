@@ -5,7 +5,7 @@ ghost use Rattle.explore.specs.MoveViews.{move_of};
 ghost use Rattle.review.specs.PlayedViews.{move_played};
 
 use crate::room::Room;
-use explore::{Deed, Move};
+use explore::{AttackAction, Move};
 use rights::Memory;
 use std::alloc::Global;
 use syscalls::Event;
@@ -14,7 +14,7 @@ use syscalls::Event;
 #[derive(Drop)]
 pub struct Played {
     pub event: Event,
-    pub deed: Option<Deed>,
+    pub deed: Option<AttackAction>,
 }
 
 /// A move.
@@ -22,7 +22,7 @@ fn played_move(alloc: Global, next: &Move<'_>) -> Result<Played, Memory>
     ensures { IfOk result (λ played. move_played played ≡ move_of next.now) }
 {
     let deed = match next.deed {
-        Some(deed) => Some(Deed::new(alloc, deed.instruction())?),
+        Some(deed) => Some(AttackAction::new(alloc, deed.instruction())?),
         None => None,
     };
     Ok(Played {

@@ -6,7 +6,7 @@ use crate::messages::{Queues, Traffic, call_in, next_call, traffic_of};
 use crate::played::Played;
 use crate::room::{Room, short};
 use crate::views::Reviewed;
-use explore::{Breach, Deed};
+use explore::{AttackAction, Breach};
 use instruction_set::Syscall;
 use link_tree::LinkTree;
 use page::{Lane, Message, Piece, Place, Run, Step};
@@ -76,7 +76,7 @@ struct Player<'a> {
 }
 
 /// A deed in the words of a program.
-fn deed_words(room: &mut Room, deed: &Deed) -> Vec<u8> {
+fn deed_words(room: &mut Room, deed: &AttackAction) -> Vec<u8> {
     let mut page = Page::new(room.alloc());
     add_deed(&mut page, deed);
     room.bytes(page)

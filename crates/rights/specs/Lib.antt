@@ -8,6 +8,7 @@ pub mod Opens
 pub mod OperationLists
 pub mod Operations
 pub mod Output
+pub mod RightViews
 pub mod Sets
 pub mod Sides
 pub mod StopViews

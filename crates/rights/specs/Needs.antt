@@ -3,12 +3,12 @@
 use Rattle.std.specs.Prelude.{ℕ, Bool, true, false, ◌&&◌, ◌||◌, List, [], ◌∷◌, bit_or}
 use Rattle.std.specs.List.{fold}
 use Rattle.std.proofs.Math.Bool.{not}
-use Rattle.rights.specs.Values.{RightSet}
+use Rattle.rights.specs.Values.{CommandSet, RightSet}
 use Rattle.rights.specs.Calls.{Call}
 use Rattle.rights.specs.Calls as calls
 use Rattle.rights.specs.Opens.{OpenRequest}
 use Rattle.rights.specs.Sets.{read_right, write_right, seek_right, ftruncate_right, fsync_right, fstat_right, fcntl_right, lookup_right, create_right, fstatat_right, mkdirat_right}
-use Rattle.rights.specs.Sets.{unlinkat_right, renameat_source_right, renameat_target_right}
+use Rattle.rights.specs.Sets.{unlinkat_right, renameat_source_right, renameat_target_right, getfl_command, setfl_command}
 
 -- which of the call's descriptors is asked
 pub data Position : Type 0 where
@@ -99,3 +99,33 @@ second_needs calls.Fork replaces = 0
 abbrev pub needs_of : Call → OpenRequest → Position → Bool → RightSet
 needs_of call request First replaces = first_needs call request
 needs_of call request Second replaces = second_needs call replaces
+
+-- the fcntl command that it goes by (cap_fcntls_limit(2))
+abbrev pub command_needed : Call → CommandSet
+command_needed calls.Open = 0
+command_needed calls.Openat = 0
+command_needed calls.Read = 0
+command_needed calls.Write = 0
+command_needed calls.Sendfd = 0
+command_needed calls.Recvfd = 0
+command_needed calls.Lseek = 0
+command_needed calls.Ftruncate = 0
+command_needed calls.Fsync = 0
+command_needed calls.Fstat = 0
+command_needed calls.Fcntl_getfl = getfl_command
+command_needed calls.Fcntl_setfl = setfl_command
+command_needed calls.Fstatat = 0
+command_needed calls.Stat = 0
+command_needed calls.Mkdirat = 0
+command_needed calls.Mkdir = 0
+command_needed calls.Unlinkat = 0
+command_needed calls.Unlink = 0
+command_needed calls.Renameat = 0
+command_needed calls.Dup = 0
+command_needed calls.Close = 0
+command_needed calls.Cap_rights_limit = 0
+command_needed calls.Cap_fcntls_limit = 0
+command_needed calls.Cap_enter = 0
+command_needed calls.Cap_getmode = 0
+command_needed calls.Socketpair = 0
+command_needed calls.Fork = 0

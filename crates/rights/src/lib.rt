@@ -16,9 +16,9 @@ pub mod stops;
 
 pub use calls::Call;
 pub use errors::{Cause, Errno};
-pub use need_table::{Position, needs};
+pub use need_table::{Position, command_needed, needs};
 pub use opens::OpenFlags;
-pub use operations::Op;
+pub use operations::{Op, RightOperation, operations_of_rights};
 pub use output::{Out, OutFault, write_all};
 pub use sets::{Fcntls, Rights};
 pub use sides::Side;

@@ -42,5 +42,11 @@ pub const MAX_GRANTS: usize = 8;
 /// Socket pairs that a task starts with.
 pub const MAX_PAIRS: u8 = 32;
 
+/// Rights, without their other names.
+pub const RIGHTS: usize = 14;
+
+/// Fcntl commands.
+pub const COMMANDS: usize = 2;
+
 /// Events of a schedule's text.
 pub const MAX_EVENTS: usize = 65_536;

@@ -1,12 +1,12 @@
 //! What each call needs of a descriptor's rights.
 
 ghost use Rattle.std.specs.Prelude.{◌≡◌};
-ghost use Rattle.rights.specs.Needs.{first_needs, needs_of, openat_needs, second_needs, when};
+ghost use Rattle.rights.specs.Needs.{command_needed, first_needs, needs_of, openat_needs, second_needs, when};
 ghost use Rattle.rights.specs.Views.{call_of, position_of};
 
 use crate::calls::Call;
 use crate::opens::OpenFlags;
-use crate::sets::Rights;
+use crate::sets::{Fcntls, Rights};
 
 /// Which of a call's descriptors is asked: its only one or the first of two, or the second.
 #[derive(Clone, Copy, PartialEq, Eq)]
@@ -58,7 +58,13 @@ fn of_second(call: Call, replaces: bool) -> Rights
         Call::Renameat => Rights::LOOKUP
             .union(Rights::RENAMEAT_TARGET)
             .union(when(replaces, Rights::UNLINKAT)),
-        _ => Rights::empty(),
+        Call::Open | Call::Openat | Call::Read | Call::Write => Rights::empty(),
+        Call::Sendfd | Call::Recvfd | Call::Lseek | Call::Ftruncate => Rights::empty(),
+        Call::Fsync | Call::Fstat | Call::FcntlGetfl | Call::FcntlSetfl => Rights::empty(),
+        Call::Fstatat | Call::Stat | Call::Mkdirat | Call::Mkdir => Rights::empty(),
+        Call::Unlinkat | Call::Unlink | Call::Dup | Call::Close => Rights::empty(),
+        Call::CapRightsLimit | Call::CapFcntlsLimit | Call::CapEnter => Rights::empty(),
+        Call::CapGetmode | Call::Socketpair | Call::Fork => Rights::empty(),
     }
 }
 
@@ -80,4 +86,22 @@ fn when(asked: bool, right: Rights) -> Rights
     ensures { result.0 ≡ when asked right.0 }
 {
     if asked { right } else { Rights::empty() }
+}
+
+/// The fcntl command that a call goes by; none where it goes by none. (cap_fcntls_limit(2))
+pub fn command_needed(call: Call) -> Fcntls
+    ensures { result.0 ≡ command_needed (call_of call) }
+{
+    match call {
+        Call::FcntlGetfl => Fcntls::GETFL,
+        Call::FcntlSetfl => Fcntls::SETFL,
+        Call::Open | Call::Openat | Call::Read | Call::Write => Fcntls::empty(),
+        Call::Sendfd | Call::Recvfd | Call::Lseek | Call::Ftruncate => Fcntls::empty(),
+        Call::Fsync | Call::Fstat | Call::Fstatat | Call::Stat => Fcntls::empty(),
+        Call::Mkdirat | Call::Mkdir | Call::Unlinkat | Call::Unlink => Fcntls::empty(),
+        Call::Renameat | Call::Dup | Call::Close | Call::CapRightsLimit => Fcntls::empty(),
+        Call::CapFcntlsLimit | Call::CapEnter | Call::CapGetmode | Call::Socketpair =>
+            Fcntls::empty(),
+        Call::Fork => Fcntls::empty(),
+    }
 }

@@ -2,7 +2,11 @@
 
 ghost use Rattle.std.specs.Prelude.{◌≡◌, map};
 ghost use Rattle.rights.specs.OperationLists.{lists, operation_name, same_operation};
+ghost use Rattle.rights.specs.Operations.{operations_of_rights};
+ghost use Rattle.rights.specs.RightViews.{right_operation_seen};
 ghost use Rattle.rights.specs.Views.{operation_of};
+
+use crate::sets::Rights;
 
 /// What a call does to a place of the tree, and what a grant lists.
 #[derive(Clone, Copy, PartialEq, Eq)]
@@ -56,4 +60,63 @@ impl Op {
             [first, rest @ ..] => self.is_same(*first) || self.is_listed(rest),
         }
     }
+}
+
+/// A right, and what it lets its holder do to a node or beneath it.
+#[derive(Clone, Copy)]
+pub struct RightOperation {
+    pub right: Rights,
+    pub operation: Op,
+}
+
+/// The table.
+const RIGHT_OPERATIONS: [RightOperation; 10] = [
+    RightOperation {
+        right: Rights::READ,
+        operation: Op::Read,
+    },
+    RightOperation {
+        right: Rights::WRITE,
+        operation: Op::Write,
+    },
+    RightOperation {
+        right: Rights::FTRUNCATE,
+        operation: Op::Write,
+    },
+    RightOperation {
+        right: Rights::FSTAT,
+        operation: Op::Look,
+    },
+    RightOperation {
+        right: Rights::CREATE,
+        operation: Op::Create,
+    },
+    RightOperation {
+        right: Rights::FSTATAT,
+        operation: Op::Look,
+    },
+    RightOperation {
+        right: Rights::MKDIRAT,
+        operation: Op::Create,
+    },
+    RightOperation {
+        right: Rights::UNLINKAT,
+        operation: Op::Remove,
+    },
+    RightOperation {
+        right: Rights::RENAMEAT_SOURCE,
+        operation: Op::Remove,
+    },
+    RightOperation {
+        right: Rights::RENAMEAT_TARGET,
+        operation: Op::Create,
+    },
+];
+
+/// What each right lets its holder do to a node or beneath it, as a policy counts it. The other rights let it do none of these by the calls of
+/// the model. (own; after rights(4))
+pub fn operations_of_rights() -> &'static [RightOperation]
+    ensures { map right_operation_seen result.now ≡ operations_of_rights }
+{
+    &RIGHT_OPERATIONS
 }

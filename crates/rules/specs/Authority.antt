@@ -4,9 +4,8 @@ use Rattle.std.specs.List.{list_all, list_any}
 use Rattle.std.specs.Str.{bytes_eq}
 use Rattle.rights.specs.Values.{Name, Place, SideNumber, RightSet}
 use Rattle.rights.specs.Classes.{Class, Initial}
-use Rattle.rights.specs.Operations.{Operation, Look, Read, Write, Create, Remove}
-use Rattle.rights.specs.Sets.{is_within, read_right, write_right, ftruncate_right, fstat_right, create_right, fstatat_right, mkdirat_right}
-use Rattle.rights.specs.Sets.{unlinkat_right, renameat_source_right, renameat_target_right}
+use Rattle.rights.specs.Operations.{Operation, operations_of_rights}
+use Rattle.rights.specs.Sets.{is_within, renameat_source_right, renameat_target_right}
 use Rattle.file_tree.specs.Places.{begins}
 use Rattle.file_tree.specs.Nodes.{node}
 use Rattle.rights.specs.Sides.{other_side}
@@ -71,13 +70,6 @@ may_start_all plan a program starts =
     list_all (λ (s : Start). not (s.mode && (s.program == program)) || list_all (may_start_with plan a) s.descriptors) starts
 
 -- ## What is asked of an authority
--- What a right lets its holder do to a node or beneath it, in the policy's operations. The other rights let it do none of these by the calls of the model. (own; after rights(4))
-abbrev pub operations_of_rights : List (RightSet × Operation)
-operations_of_rights =
-    (read_right, Read) ∷ (write_right, Write) ∷ (ftruncate_right, Write) ∷ (fstat_right, Look) ∷ (create_right, Create)
-    ∷ (fstatat_right, Look) ∷ (mkdirat_right, Create) ∷ (unlinkat_right, Remove) ∷ (renameat_source_right, Remove)
-    ∷ (renameat_target_right, Create) ∷ []
-
 -- The grant lists each operation of a ceiling's rights. One that the task hasn't lists none.
 abbrev pub keeps_ceiling : List Grant → Ceiling → Bool
 keeps_ceiling grants c =

@@ -2,6 +2,7 @@
 
 ghost use Rattle.std.specs.Prelude.{◌≡◌, ◌≤◌, length};
 
+use call_facts::{Passed, first_operand, passed_by, second_operand};
 use certificate::{
     Bound, Cert, Channel, Domain, End, Held, Interval, Refusal, Target, Version, push_channels,
 };
@@ -35,7 +36,7 @@ fn named_end(bound: &Bound, interval: Interval, number: u32) -> Option<End> {
 }
 
 /// Where the channel of what an end sends stands among these, or would.
-fn place_of(lines: &[Channel], end: &End) -> usize
+fn index_of(lines: &[Channel], end: &End) -> usize
     ensures { result ≤ length lines.now }
 {
     for (place, line) in lines.iter().enumerate() {
@@ -64,7 +65,7 @@ impl Channels {
     /// What comes by an end, if anything may come.
     pub(crate) fn received(&self, end: &End) -> Option<Held> {
         let other = end.other();
-        match self.lines.get(place_of(&self.lines, &other)) {
+        match self.lines.get(index_of(&self.lines, &other)) {
             Some(line) if other.compare(&line.end()).is_eq() => line.sends(),
             _ => None,
         }
@@ -94,7 +95,7 @@ impl Channels {
 
     /// Lets what is sent from an end be this too.
     fn add(&mut self, end: End, sends: Option<Held>) -> Result<(), AllocError> {
-        let at = place_of(&self.lines, &end);
+        let at = index_of(&self.lines, &end);
         if let Some(line) = self.lines.get_mut(at) {
             if end.compare(&line.end()).is_eq() {
                 if !sends.within(&line.sends()) {
@@ -151,13 +152,12 @@ impl Channels {
 
     /// Learns what a call sends or receives there.
     fn learn_call(&mut self, bound: &Bound, call: &Syscall) -> Result<(), AllocError> {
-        match call {
-            Syscall::Sendfd {
-                descriptor,
-                sent,
-                ..
-            } => self.learn_sent(bound, *descriptor, *sent),
-            Syscall::Recvfd { descriptor } => self.learn_received(bound, *descriptor),
+        let Some(descriptor) = first_operand(call) else {
+            return Ok(());
+        };
+        match (passed_by(call.call()), second_operand(call)) {
+            (Passed::DescriptorOut, Some(sent)) => self.learn_sent(bound, descriptor, sent),
+            (Passed::DescriptorIn, _) => self.learn_received(bound, descriptor),
             _ => Ok(()),
         }
     }

@@ -10,8 +10,9 @@ ghost use Rattle.transfer.specs.Limits.{leaves_known};
 use crate::channels::Channels;
 use crate::flat::with_first;
 use crate::point_states::ProgramPoints;
+use call_facts::{Passed, passed_by};
 use certificate::{Bound, Interval, ModeBound, Refusal, Slot};
-use instruction_set::{Instruction, Syscall};
+use instruction_set::Instruction;
 use rights::limits::{MAX_DESCRIPTORS, MAX_INSTRUCTIONS, REGISTERS};
 use std::alloc::{AllocError, Global};
 use task::{Start, Task};
@@ -80,10 +81,7 @@ pub(crate) fn all_program_points(
 /// Whether an instruction receives descriptors.
 fn receives(instruction: &Instruction) -> bool {
     match instruction {
-        Instruction::Invoke {
-            call: Syscall::Recvfd { .. },
-            ..
-        } => true,
+        Instruction::Invoke { call, .. } => passed_by(call.call()) == Passed::DescriptorIn,
         _ => false,
     }
 }

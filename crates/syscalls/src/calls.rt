@@ -50,7 +50,10 @@ impl<T: Tree> Kernel<'_, T> {
             Syscall::CapGetmode => Ok(self.get_mode()),
             Syscall::Socketpair => self.make_pair(),
             Syscall::Fork => self.fork(),
-            _ => unreachable!(),
+            Syscall::Open { .. } | Syscall::Stat { .. } | Syscall::Mkdir { .. } => unreachable!(),
+            Syscall::Openat { .. } | Syscall::Fstatat { .. } => unreachable!(),
+            Syscall::Mkdirat { .. } | Syscall::Unlinkat { .. } => unreachable!(),
+            Syscall::Unlink { .. } | Syscall::Renameat { .. } => unreachable!(),
         }
     }
 

@@ -14,7 +14,7 @@ use std::alloc::{AllocError, Global};
 use texts::{Page, say};
 
 /// The line of a point, where that is known.
-fn place_of(scene: &Scene<'_>, program: u8, point: usize) -> Option<Place> {
+fn location_of(scene: &Scene<'_>, program: u8, point: usize) -> Option<Place> {
     let Ok(point) = u8::try_from(point) else {
         return None;
     };
@@ -38,7 +38,7 @@ pub(crate) fn broken(
         rule: RuleId::Numbered(found.rule.number()),
         level: Level::Error,
         message: finding_words(alloc, scene, found).into_bytes()?,
-        place: place_of(scene, found.program, usize::from(found.point)),
+        place: location_of(scene, found.program, usize::from(found.point)),
         related: Vec::new(alloc),
     })
 }
@@ -53,7 +53,7 @@ fn related(
     let mut places = Vec::new(alloc);
     let mut before = 0;
     for point in points {
-        if let Some(place) = place_of(scene, program, *point) {
+        if let Some(place) = location_of(scene, program, *point) {
             if before != 0 && before != place.line {
                 places.push(place)?;
             }
@@ -92,7 +92,7 @@ pub(crate) fn observed(
         rule: RuleId::Named(observation.topic.name()),
         level: level_of(observation.topic),
         message: words_of(observation).into_bytes()?,
-        place: place_of(scene, program, first),
+        place: location_of(scene, program, first),
         related: related(alloc, scene, program, &observation.points)?,
     })
 }

@@ -1,6 +1,6 @@
 //! What is wanted behind the word of an instruction, in words.
 
-use crate::known_words::{COMMANDS, FLAGS, RIGHTS};
+use crate::known_words::{command_words, flag_words, right_words};
 use crate::near::{is_known, meant};
 use prog_asm::Form;
 use texts::{Page, say};
@@ -24,9 +24,9 @@ pub(crate) fn wanted(form: Form) -> &'static str {
 /// The words that a list of this form is made of.
 pub(crate) fn words_of(form: Form) -> &'static [&'static str] {
     match form {
-        Form::Flags => FLAGS,
-        Form::Rights => RIGHTS,
-        Form::Commands => COMMANDS,
+        Form::Flags => flag_words(),
+        Form::Rights => right_words(),
+        Form::Commands => command_words(),
         _ => &[],
     }
 }

@@ -1,35 +1,57 @@
 //! The words that a task's text is made of.
 
+ghost use Rattle.std.specs.Prelude.{◌≡◌, ◌∷◌, [], map};
+ghost use Rattle.rights.specs.OperationLists.{operation_name};
+ghost use Rattle.rights.specs.Operations.{Look, Read, Write, Create, Remove};
+ghost use Rattle.rights.specs.Sets.{command_names, right_names};
+ghost use Rattle.call_facts.specs.Sets.{flag_rows};
+
 use crate::fields::TableKind;
 
-/// The rights, with the aliases for sockets.
-pub(crate) const RIGHTS: &[&str] = &[
-    "READ",
-    "WRITE",
-    "SEEK",
-    "FTRUNCATE",
-    "FSYNC",
-    "FSTAT",
-    "FCNTL",
-    "LOOKUP",
-    "CREATE",
-    "FSTATAT",
-    "MKDIRAT",
-    "UNLINKAT",
-    "RENAMEAT_SOURCE",
-    "RENAMEAT_TARGET",
-    "RECV",
-    "SEND",
-];
+/// The names of the rights, with those for sockets behind them.
+pub(crate) fn right_words() -> &'static [&'static str]
+    ensures { map (λ word. word.now) result.now ≡ map (λ named. named.0) right_names }
+{
+    &[
+        "READ",
+        "WRITE",
+        "SEEK",
+        "FTRUNCATE",
+        "FSYNC",
+        "FSTAT",
+        "FCNTL",
+        "LOOKUP",
+        "CREATE",
+        "FSTATAT",
+        "MKDIRAT",
+        "UNLINKAT",
+        "RENAMEAT_SOURCE",
+        "RENAMEAT_TARGET",
+        "RECV",
+        "SEND",
+    ]
+}
 
-/// The fcntl commands.
-pub(crate) const COMMANDS: &[&str] = &["GETFL", "SETFL"];
+/// The names of the fcntl commands.
+pub(crate) fn command_words() -> &'static [&'static str]
+    ensures { map (λ word. word.now) result.now ≡ map (λ named. named.0) command_names }
+{
+    &["GETFL", "SETFL"]
+}
 
-/// The operations of a grant.
-const OPERATIONS: &[&str] = &["look", "read", "write", "create", "remove"];
+/// The names of the operations of a grant.
+fn operation_words() -> &'static [&'static str]
+    ensures { map (λ word. word.now) result.now ≡ map operation_name (Look ∷ Read ∷ Write ∷ Create ∷ Remove ∷ []) }
+{
+    &["look", "read", "write", "create", "remove"]
+}
 
-/// The flags of an open.
-pub(crate) const FLAGS: &[&str] = &["read", "write", "append", "create", "trunc"];
+/// The names of the flags of an open.
+pub(crate) fn flag_words() -> &'static [&'static str]
+    ensures { map (λ word. word.now) result.now ≡ map (λ row. row.name) flag_rows }
+{
+    &["read", "write", "append", "create", "trunc"]
+}
 
 /// The rights and fcntl commands of FreeBSD that a task can't name. (rights(4), cap_fcntls_limit(2))
 const FREEBSD_WORDS: &str =
@@ -102,7 +124,7 @@ pub(crate) fn value_of(kind: TableKind, key: &str) -> Value {
     match (kind, key) {
         (TableKind::Top, _) | (TableKind::Process, "fd") => Value::Tables,
         (TableKind::Node, "kind") => Value::OneOf(&["file", "dir", "link"]),
-        (TableKind::Grant, "ops") => Value::Words(OPERATIONS),
+        (TableKind::Grant, "ops") => Value::Words(operation_words()),
         (TableKind::Process, "mode") => Value::OneOf(&["free", "cap"]),
         (TableKind::Process, "program") | (TableKind::Grant | TableKind::Program, "name") => {
             Value::Name
@@ -110,8 +132,8 @@ pub(crate) fn value_of(kind: TableKind, key: &str) -> Value {
         (TableKind::Descriptor, "number" | "pair") => Value::Number,
         (TableKind::Descriptor, "flags") => Value::Words(&["read", "write"]),
         (TableKind::Descriptor, "side") => Value::OneOf(&["a", "b"]),
-        (TableKind::Descriptor, "rights") => Value::Words(RIGHTS),
-        (TableKind::Descriptor, "fcntls") => Value::Words(COMMANDS),
+        (TableKind::Descriptor, "rights") => Value::Words(right_words()),
+        (TableKind::Descriptor, "fcntls") => Value::Words(command_words()),
         (TableKind::Program, "untrusted") => Value::Truth,
         _ => Value::Text,
     }

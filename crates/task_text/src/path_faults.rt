@@ -6,6 +6,7 @@ use crate::fields::{Fields, Item as ListWord, Table, TableKind};
 use crate::near::meant;
 use crate::places::part;
 use crate::tokens::TokenKind;
+use file_tree::lies_at;
 use indexmap::IndexMap;
 use prog_asm::is_valid_path;
 use rights::limits::{MAX_DESCRIPTORS, MAX_GRANTS, MAX_NAME, MAX_PROGRAMS};
@@ -159,10 +160,7 @@ fn directory_of(path: &[u8]) -> &[u8] {
 
 /// Whether a path is another, or is beneath it.
 fn is_beneath(path: &[u8], above: &[u8]) -> bool {
-    match path.strip_prefix(above) {
-        Some(rest) => rest.is_empty() || rest.starts_with(b"/") || above == b"/".as_slice(),
-        None => false,
-    }
+    lies_at(without_slash(above), path)
 }
 
 /// A path without a slash at its end.

@@ -4,7 +4,7 @@ use Rattle.std.specs.Prelude.{◌==◌, ◌&&◌, not, nat_lt, nat_le, Option, S
 use Rattle.std.specs.List.{slice_get}
 use Rattle.rights.specs.Needs.{Second, needs_of}
 use Rattle.rights.specs.Opens.{OpenRequest, no_request}
-use Rattle.rights.specs.Operations.{Operation, Look, Read as Reads, Write as Writes, Create as Creates, Remove as Removes}
+use Rattle.rights.specs.Operations.{operations_of_rights, Operation, Look, Read as Reads, Write as Writes, Create as Creates, Remove as Removes}
 use Rattle.rights.specs.Sets.{is_within, read_right, write_right, ftruncate_right, fstat_right, fstatat_right, mkdirat_right, unlinkat_right}
 use Rattle.rights.specs.Sets.{renameat_source_right, renameat_target_right}
 use Rattle.rights.proofs.Subsets.{is_within-trans}
@@ -27,7 +27,6 @@ use Rattle.kernel.specs.Walks.{lookups_of}
 use Rattle.task.specs.Plans.{Plan}
 use Rattle.task.specs.Policies.{grant_holds}
 use Rattle.task.specs.Sandboxed.{Allowed, AreAllowed}
-use Rattle.rules.specs.Authority.{operations_of_rights}
 use Rattle.rules.proofs.Members.{Among}
 use Rattle.rules.proofs.calls.OpenCalls.{reached_beneath}
 use Rattle.rules.proofs.findings.Findings.{FoundBeneath}

@@ -6,7 +6,7 @@ use Rattle.std.specs.Str.{bytes_eq}
 use Rattle.std.specs.Cmp.Derive.{both_true}
 use Rattle.std.proofs.lemmas.Bool.{eqb-true}
 use Rattle.rights.specs.Classes.{Class}
-use Rattle.rights.specs.Operations.{Operation}
+use Rattle.rights.specs.Operations.{operations_of_rights, Operation}
 use Rattle.rights.specs.Sets.{all_rights, all_commands, is_within, renameat_source_right, renameat_target_right}
 use Rattle.rights.proofs.Lists.{list_all-slice_get}
 use Rattle.rights.proofs.Subsets.{is_within-trans}
@@ -22,7 +22,7 @@ use Rattle.task.specs.Plans.{Grant, Plan, program_name}
 use Rattle.task.specs.Policies.{grant_holds, grant_lists}
 use Rattle.task.specs.Sandboxed.{Allowed}
 use Rattle.task.proofs.Allowances.{allowed_is_tested}
-use Rattle.rules.specs.Authority.{ceiling_in, is_widest, keeps_ceiling, keeps_moves, keeps_received, keeps_sent, lists_end, may_come, may_hold, may_hold_all, operations_of_rights, stays_in}
+use Rattle.rules.specs.Authority.{ceiling_in, is_widest, keeps_ceiling, keeps_moves, keeps_received, keeps_sent, lists_end, may_come, may_hold, may_hold_all, stays_in}
 use Rattle.rules.specs.Channels.{channel_at}
 use Rattle.rules.specs.Outcomes.{unknown_held}
 use Rattle.rules.proofs.Members.{Among, each_of}

@@ -6,7 +6,7 @@ use Rattle.rights.specs.Classes as classes
 use Rattle.rights.specs.Limits.{most_nodes}
 use Rattle.rights.specs.Needs.{openat_needs}
 use Rattle.rights.specs.Opens.{OpenRequest, open_request}
-use Rattle.rights.specs.Operations.{Operation, Look, Read as Reads, Write as Writes, Create as Creates, Remove as Removes}
+use Rattle.rights.specs.Operations.{operations_of_rights, Operation, Look, Read as Reads, Write as Writes, Create as Creates, Remove as Removes}
 use Rattle.rights.specs.Sets.{all_rights, all_commands, is_within, read_right, write_right, ftruncate_right, fstat_right, create_right, fstatat_right, mkdirat_right, unlinkat_right}
 use Rattle.rights.specs.Sets.{renameat_source_right, renameat_target_right}
 use Rattle.rights.proofs.Subsets.{is_within-trans}
@@ -31,7 +31,7 @@ use Rattle.kernel.specs.Walks.{lookups_of, under_way}
 use Rattle.task.specs.Plans.{Plan, program_name, programs_of_plan}
 use Rattle.task.specs.Policies.{grant_holds}
 use Rattle.task.specs.Sandboxed.{Allowed, AreAllowed}
-use Rattle.rules.specs.Authority.{authority_at, operations_of_rights}
+use Rattle.rules.specs.Authority.{authority_at}
 use Rattle.rules.proofs.Members.{Among}
 use Rattle.rules.proofs.calls.OpenCalls.{IsBeside, IsReached, deep_truncated, last_node, reached_beneath, truncated_place}
 use Rattle.rules.proofs.findings.Findings.{FoundBeneath}

@@ -1,0 +1,5 @@
+pub mod Same
+pub mod SetLaws
+pub mod FlagLaws
+mod RoleLaws
+mod TextRows

@@ -1,0 +1,9 @@
+pub mod Facts
+pub mod FactViews
+pub mod Arguments
+pub mod ArgumentViews
+pub mod Operations
+pub mod Sets
+pub mod MemberViews
+pub mod Texts
+pub mod Looking
