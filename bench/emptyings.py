@@ -214,6 +214,32 @@ EFFECTS = "kernel/specs/Calls.antt", [
     ("renamed_over, what is created", "∷ record { operation = Creates; place = (at m).place } ∷ []", "∷ []",
         "renames_over_a_file"),
 ]
+USES = "kernel/specs/Calls.antt", [
+    ("use, the mode", "unless (not (s.mode && reaches_globally right)) ECAPMODE CapMode", "unless true ECAPMODE CapMode", "use_asks_the_mode_first"),
+    ("use, its right", "through (bit_or (companions_of right) right) (entry x)", "through (companions_of right) (entry x)",
+        "use_asks_its_right_before_the_kind"),
+    ("use, what stands beside its right", "through (bit_or (companions_of right) right) (entry x)", "through right (entry x)",
+        "use_asks_what_stands_beside_before_the_kind"),
+    ("use, its effect", "effects_of_use right place = effects_by (operation_of_use right) place", "effects_of_use right place = []",
+        "use_of_mmap_reads"),
+    ("use, the kind of a node", "used (not (acts_beneath right) || is_dir (at n).kind)", "used true", "use_asks_the_kind_before_the_kernel"),
+    ("use, the kind of an end", "used (not (acts_beneath right)) []", "used true []", "use_asks_for_no_end_before_the_kernel"),
+    ("use, the kernel", "unless fits ENOTDIR errors.Kind (unrefused EAGAIN (Gives 0 same effects))",
+        "unless fits ENOTDIR errors.Kind (Gives 0 same effects)", "use_may_be_refused"),
+]
+
+FURTHER = "rights/specs/Uses.antt", [
+    ("companions, of MMAP_R", "(further_right 24, read_right + seek_right)", "(further_right 24, read_right)", "each_further_right"),
+    ("companions, of FCHMODAT", "(further_right 8, lookup_right) ∷ ", "", "each_further_right"),
+    ("global_rights, CONNECT", "further_right 1 + further_right 2 + further_right 5", "further_right 1 + further_right 5", "each_further_right"),
+    ("operation_of_use", "operation_of_use right = beside_in operations_of_rights right", "operation_of_use right = None", "each_further_right"),
+]
+
+LANGUAGES = "instruction_set/specs/Languages.antt", [
+    ("speaks, a use", "speaks wide (Use descriptor right) = wide", "speaks wide (Use descriptor right) = true", ""),
+    ("speaks, a limit", "= wide || is_within rights plain_rights", "= true", "limit_to_a_further_right_is_of_the_wide_language"),
+]
+
 CAUSES = "kernel/specs/Answers.antt", [
     ("granted, the cause", "granted need d rest = unless (is_within need d.rights) ENOTCAPABLE MissingRight rest",
         "granted need d rest = unless (is_within need d.rights) ENOTCAPABLE Refused rest", "limits_and_misses_a_right"),
@@ -286,7 +312,7 @@ LATER_EVENTS = "kernel/specs/LaterEvents.antt", [
 
 WITHIN = "rules/specs/Within.antt", [
     ("IsBelowCeiling.holds", "pub holds : grant_holds grants name place ≡ true", "pub holds : true ≡ true", "within_refuses"),
-    ("IsBelowCeiling.below", "pub below : is_within rights (ceiling_in a.ceilings name) ≡ true", "pub below : true ≡ true", "within_refuses"),
+    ("IsBelowCeiling.below", "pub below : is_within rights (most_in wide a name) ≡ true", "pub below : true ≡ true", "within_refuses"),
     ("MayHave, a listed end", "= lists_end a.holds class side ≡ true", "= true ≡ true", "within_refuses"),
     ("MayHave, an own end", "= program ≡ own", "= program ≡ program", "within_refuses"),
     ("IsTableWithin", "IfHeld (IsWithinAuthority plan certificate w program) (w.files.table p n)", "n ≡ n", "carried_in"),
@@ -297,5 +323,5 @@ WITHIN = "rules/specs/Within.antt", [
         "carried_in"),
 ]
 
-FILES = [ORIGINS, GAINS, HELD, SANDBOXED, CONFINED, HOSTILE, POLICIES, PREMISES, CHOICES, LIMITS, STEPS, EFFECTS, CAUSES, WELL_FORMED, LATER_EVENTS, WITHIN]
+FILES = [ORIGINS, GAINS, HELD, SANDBOXED, CONFINED, HOSTILE, POLICIES, PREMISES, CHOICES, LIMITS, STEPS, EFFECTS, USES, FURTHER, LANGUAGES, CAUSES, WELL_FORMED, LATER_EVENTS, WITHIN]
 EMPTYINGS = [(name, file, old, new, by) for file, changes in FILES for name, old, new, by in changes]

@@ -1,4 +1,4 @@
-"""What bench/emptied exchanges: for each row of crates/kernel/proofs/CauseRows.antt and NameCauseRows.antt the two tests whose order it tells, in the
+"""What bench/emptied exchanges: for each row of crates/kernel/proofs/CauseRows.antt and NameCauseRows.antt, and each of UseRows.antt that tells an order, the two tests, in the
 definition of the calls. A line has the row, the text that is replaced, and what stands there then. A text that ends in ` =`
 stands for its whole clause, and what a new text leaves open, where the old one doesn't, is closed at its end."""
 
@@ -279,6 +279,18 @@ PAIRS = [
       (at_number (lowest_from (most_descriptors - 1 - first) (first + 1) (w.files.table p)) (λ second.
       Gives first (record same { table = New_pair first second (Made_at s.program s.point) }) []"""),
     ("socketpair_asks_the_first_number_before_the_kernel", "pair_at None =", "unrefused ENFILE (Fails EMFILE Full"),
+    ("use_asks_the_mode_first", "answer (Use x right) =", """through (bit_or (companions_of right) right) (entry x) (λ d.
+      unless (not (s.mode && reaches_globally right)) ECAPMODE CapMode
+      (at_object (w.files.objects d.description)
+      (λ n access. used (not (acts_beneath right) || is_dir (at n).kind) (effects_of_use right (at n).place))
+      (λ pair side. used (not (acts_beneath right)) []"""),
+    ("use_asks_its_right_before_the_kind", "answer (Use x right) =", """unless (not (s.mode && reaches_globally right)) ECAPMODE CapMode
+      (held (entry x) (λ d.
+      at_object (w.files.objects d.description)
+      (λ n access. unless (not (acts_beneath right) || is_dir (at n).kind) ENOTDIR errors.Kind
+      (granted (bit_or (companions_of right) right) d (used true (effects_of_use right (at n).place))))
+      (λ pair side. unless (not (acts_beneath right)) ENOTDIR errors.Kind (granted (bit_or (companions_of right) right) d (used true []"""),
+    ("use_asks_the_kind_before_the_kernel", "used fits effects =", "unrefused EAGAIN (unless fits ENOTDIR errors.Kind (Gives 0 same effects"),
     ("fork_asks_the_room_before_the_kernel", "answer Fork =", """unrefused EAGAIN
       (unless (nat_lt (length w.processes) most_processes) EAGAIN Full
       (Gives (length w.processes) (record same { table = New_process }) []"""),

@@ -34,3 +34,13 @@ def task_of(programs):
         'grant = [{name="work", path="/work", ops=["look", "read", "write", "create", "remove"]}]\n'
         f"process = [{starts}]\n{texts}"
     )
+
+
+def certificate_of(programs):
+    """The certificate of a task of task_of, which bounds no register."""
+    lines = ["capcert 1"]
+    for program in range(programs):
+        for point in range(256):
+            lines.append(f"at p{program} {point} on")
+            lines.extend(f"fd {number} open grant work 3fff 3fff 3 3" for number in range(16))
+    return "\n".join(lines + ["end", ""])

@@ -147,7 +147,21 @@ hold @0 b
 end
 ";
 
-/// Where each of its lines begins.
+/// The same with further rights, in version 4.
+const FURTHER_RIGHTS: &str = "capcert 4
+at main 0 off
+fd 0 open grant work 3fff 3fff 3 3 ffffffff ffffffff
+fd 2 maybe sock @0 a 0000 3fff 0 3 00000000 ffffffff
+chan @0 a grant work 0081 0081 3 3 00000010 00100010
+chan @0 b none
+auth child
+ceil log 0000 00000010
+ceil work 0081 00000000
+hold @0 b
+end
+";
+
+/// Where each line of the authority begins.
 const ITS_LINE_STARTS: [usize; 15] = [
     0, 10, 24, 59, 93, 127, 141, 176, 210, 244, 279, 311, 322, 337, 347,
 ];
@@ -180,6 +194,7 @@ fn texts_are_written_back(rt: HostRuntime) {
         TWO_POINTS,
         ONE_POINT,
         AN_AUTHORITY,
+        FURTHER_RIGHTS,
     ] {
         assert!(rt; is_written_back(rt.alloc(), text.as_bytes()), "{text}");
     }
@@ -205,7 +220,7 @@ fn untold_failure(alloc: Global, text: &[u8]) -> Result<Option<usize>, CertFault
 
 #[test]
 fn a_failed_write_is_told(rt: HostRuntime) -> Result<(), Fail> {
-    for text in [SIX_POINTS, AN_AUTHORITY] {
+    for text in [SIX_POINTS, AN_AUTHORITY, FURTHER_RIGHTS] {
         let untold = untold_failure(rt.alloc(), text.as_bytes())?;
         assert!(rt; untold == None, "{untold:?}");
     }
@@ -261,7 +276,7 @@ fn is_one_spelling(alloc: Global, bytes: &[u8]) -> bool {
 
 #[test]
 fn a_changed_byte_is_a_fault_or_another_certificate(rt: HostRuntime) -> Result<(), Fail> {
-    for text in [THREE_POINTS, AN_AUTHORITY] {
+    for text in [THREE_POINTS, AN_AUTHORITY, FURTHER_RIGHTS] {
         for (place, _) in text.as_bytes().iter().enumerate() {
             for byte in 0..=255 {
                 let bytes = with_byte(rt.alloc(), text.as_bytes(), place, byte)?;

@@ -1,135 +1,39 @@
 //! Steps in which a process of an untrusted program does anything, by what their lines show.
 
-ghost use Rattle.std.specs.Prelude.{◌≡◌, ◌∷◌, [], IfOk, codes, false, true};
-ghost use Rattle.rights.specs.Sets.{all_commands, all_rights};
-ghost use Rattle.file_tree.specs.Nodes.{Dir};
-ghost use Rattle.task.specs.Plans.{On_end, On_node};
-ghost use Rattle.task.specs.Views.{first_descriptor_of, first_object_of, nodes_of, programs_of, starts_of};
-
 use crate::base::times;
-use fd_table::{Access, Side};
-use file_tree::{Kind, Place};
 use instruction_set::{Instruction, Program};
 use link_tree::LinkTree;
-use prog_asm::assemble;
-use rights::{Cause, Errno, Fcntls, Rights};
+use prog_asm::assemble_wide;
+use rights::{Cause, Errno};
 use simulator::{Line, LineResult, Machine};
-use std::alloc::{AllocError, Global};
+use std::alloc::Global;
 use std::process::Abort;
 use std::test::Fail;
 use syscalls::Event;
-use task::{FirstDescriptor, FirstObject, NamedProgram, Start, Task, TaskNode};
-use texts::Name;
+use task::Task;
+use task_reader::read_task;
 
-/// The root alone.
-fn root(alloc: Global) -> Result<Vec<TaskNode>, AllocError>
-    ensures { IfOk result (λ nodes. nodes_of nodes.items ≡ record { kind = Dir; place = []; linked = true; content = [] } ∷ []) }
-{
-    let mut nodes = Vec::new(alloc);
-    nodes.push(TaskNode {
-        kind: Kind::Dir,
-        place: Place::root(alloc),
-        content: Vec::new(alloc),
-    })?;
-    Ok(nodes)
-}
+/// The tree's root alone. Process 0 is of `main`, with the root as descriptor 0, and side a of a pair as descriptor 1: it sends the root to
+/// the other process, for reading beneath it. Process 1 is of `child`, which is untrusted, in capability mode, with side b as descriptor 0.
+const FRONT: &str = "node = []
+grant = []
+process = [
+ {program=\"main\", fd=[{number=0, path=\"/\"}, {number=1, pair=0, side=\"a\"}]},
+ {program=\"child\", mode=\"cap\", fd=[{number=0, pair=0, side=\"b\"}]}]
 
-/// `main`, and `child`, which is marked.
-fn programs(alloc: Global, main: Program, child: Program) -> Result<Vec<NamedProgram>, AllocError>
-    ensures { IfOk result (λ programs. programs_of programs.items ≡ record { name = codes "main"; code = main; marked = false }
-        ∷ record { name = codes "child"; code = child; marked = true } ∷ []) }
-{
-    let mut programs = Vec::new(alloc);
-    programs.push(NamedProgram {
-        name: Name::new(b"main"),
-        program: main,
-        untrusted: false,
-    })?;
-    programs.push(NamedProgram {
-        name: Name::new(b"child"),
-        program: child,
-        untrusted: true,
-    })?;
-    Ok(programs)
-}
+[[program]]
+name = \"main\"
+code = '''
+cap_rights_limit 0 READ,LOOKUP else e
+sendfd 1 0 65 else e
+e: halt
+'''
 
-/// A first descriptor with all rights.
-fn all_of(number: u8, object: FirstObject) -> FirstDescriptor
-    ensures { first_descriptor_of result ≡ record { number = number; object = first_object_of object; rights = all_rights; fcntls = all_commands } }
-{
-    FirstDescriptor {
-        number,
-        object,
-        rights: Rights::all(),
-        fcntls: Fcntls::all(),
-    }
-}
-
-/// Process 0 is of `main`, with the root as descriptor 0, and side a of a pair as descriptor 1. Process 1 is of `child`, in capability
-/// mode, with side b as descriptor 0.
-fn starts(alloc: Global) -> Result<Vec<Start>, AllocError>
-    ensures { IfOk result (λ starts. starts_of starts.items ≡
-        record {
-          program = 0;
-          mode = false;
-          descriptors = record { number = 0; object = On_node 0 (record { readable = true; writable = false }); rights = all_rights; fcntls = all_commands }
-              ∷ record { number = 1; object = On_end 0 0; rights = all_rights; fcntls = all_commands } ∷ [];
-        }
-        ∷ record {
-          program = 1;
-          mode = true;
-          descriptors = record { number = 0; object = On_end 0 1; rights = all_rights; fcntls = all_commands } ∷ [];
-        } ∷ []) }
-{
-    let access = Access {
-        readable: true,
-        writable: false,
-    };
-    let mut own = Vec::new(alloc);
-    own.push(all_of(0, FirstObject::Node { node: 0, access }))?;
-    own.push(all_of(
-        1,
-        FirstObject::End {
-            pair: 0,
-            side: Side::A,
-        },
-    ))?;
-    let mut others = Vec::new(alloc);
-    others.push(all_of(
-        0,
-        FirstObject::End {
-            pair: 0,
-            side: Side::B,
-        },
-    ))?;
-    let mut starts = Vec::new(alloc);
-    starts.push(Start {
-        program: 0,
-        mode: false,
-        descriptors: own,
-    })?;
-    starts.push(Start {
-        program: 1,
-        mode: true,
-        descriptors: others,
-    })?;
-    Ok(starts)
-}
-
-/// The task of these programs.
-fn marked_task(alloc: Global, main: Program, child: Program) -> Result<Task, AllocError> {
-    let _main = main.code();
-    let _child = child.code();
-    Ok(Task::new(
-        root(alloc)?,
-        Vec::new(alloc),
-        programs(alloc, main, child)?,
-        starts(alloc)?,
-    ))
-}
-
-/// `main` sends the root to the other process, for reading beneath it.
-const MAIN: &str = "cap_rights_limit 0 READ,LOOKUP else e\nsendfd 1 0 65 else e\ne: halt\n";
+[[program]]
+name = \"child\"
+untrusted = true
+code = '''
+";
 
 /// What a process is made to do, as assembly has it, with label `e` for what follows an error; and what register 0 and the point are
 /// afterwards. The other registers are 0.
@@ -158,7 +62,7 @@ fn shown(line: &Line) -> Option<(u8, LineResult)> {
 /// The program of an instruction, with an end for what follows an error.
 fn program_of(alloc: Global, text: &str) -> Result<Program, Fail> {
     let text = format!(in alloc; "{text}\ne: halt\n")?;
-    Ok(assemble(alloc, text.as_str())?)
+    Ok(assemble_wide(alloc, text.as_str())?)
 }
 
 /// The line of a step in which the event's process is made to do something.
@@ -213,11 +117,11 @@ fn plays_row(
     Ok(())
 }
 
-/// The task of `main` and this `child`.
-fn task_of(alloc: Global, child: &str) -> Result<Task, Fail> {
-    let main = assemble(alloc, MAIN)?;
-    let child = assemble(alloc, child)?;
-    Ok(marked_task(alloc, main, child)?)
+/// The task of `main` and this `child`, which asks for further rights or not.
+fn task_of(alloc: Global, wide: bool, child: &str) -> Result<Task, Fail> {
+    let front = FRONT;
+    let text = format!(in alloc; "further_rights = {wide}\n{front}{child}'''\n")?;
+    Ok(read_task(alloc, text.as_str().as_bytes())?)
 }
 
 /// Plays steps, each of which shows what its row says.
@@ -234,8 +138,14 @@ fn plays_rows(
 }
 
 /// Plays steps of `main` and this `child`.
-fn plays(rt: &impl Abort, alloc: Global, child: &str, rows: &[Row<'_>]) -> Result<(), Fail> {
-    let task = task_of(alloc, child)?;
+fn plays(
+    rt: &impl Abort,
+    alloc: Global,
+    wide: bool,
+    child: &str,
+    rows: &[Row<'_>],
+) -> Result<(), Fail> {
+    let task = task_of(alloc, wide, child)?;
     let mut machine: Machine<'_, LinkTree> = Machine::start(alloc, &task)?;
     plays_rows(rt, alloc, &mut machine, rows)
 }
@@ -289,6 +199,7 @@ fn a_marked_program_does_anything(rt: HostRuntime) -> Result<(), Fail> {
     plays(
         &rt,
         rt.alloc(),
+        false,
         "halt\njeq r0 5 h\nset r1 1\nh: halt\n",
         &rows,
     )
@@ -311,6 +222,7 @@ fn a_walk_goes_on_as_what_began_it(rt: HostRuntime) -> Result<(), Fail> {
     plays(
         &rt,
         rt.alloc(),
+        false,
         "openat 1 \"./.\" read else e\ne: halt\n",
         &rows,
     )
@@ -330,5 +242,19 @@ fn the_last_point_will_do(rt: HostRuntime) -> Result<(), Fail> {
         (1, Some(("socketpair else e", 0, 255)), gives(255, 3)),
         (1, None, Some((255, LineResult::Halted))),
     ];
-    plays(&rt, rt.alloc(), child.as_str(), &rows)
+    plays(&rt, rt.alloc(), false, child.as_str(), &rows)
+}
+
+#[test]
+fn a_further_right_is_asked_for(rt: HostRuntime) -> Result<(), Fail> {
+    let lacks = fails(1, Errno::ENOTCAPABLE, Cause::MissingRight);
+    let rows: [Row<'_>; 6] = [
+        LIMITS,
+        SENDS,
+        (1, Some(("recvfd 0 else e", 0, 1)), gives(0, 1)),
+        (1, Some(("use 1 FCHMOD else e", 0, 1)), lacks),
+        (1, Some(("use 0 EVENT else e", 0, 1)), gives(1, 0)),
+        (1, None, Some((1, LineResult::Halted))),
+    ];
+    plays(&rt, rt.alloc(), true, "halt\nhalt\n", &rows)
 }

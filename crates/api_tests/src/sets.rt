@@ -10,7 +10,9 @@ fn rights_as_sets(rt: HostRuntime) {
     assert!(rt; read_write.contains(Rights::WRITE));
     assert!(rt; !read_write.contains(Rights::SEEK.union(Rights::READ)));
     assert!(rt; read_write.intersection(Rights::WRITE.union(Rights::LOOKUP)) == Rights::WRITE);
-    assert!(rt; Rights::all().bits() == 0x3fff);
+    assert!(rt; Rights::plain().bits() == 0x3fff);
+    assert!(rt; Rights::further().bits() == 0x3fff_ffff_c000);
+    assert!(rt; Rights::all().bits() == 0x3fff_ffff_ffff);
     assert!(rt; Rights::empty().bits() == 0);
 }
 

@@ -32,6 +32,7 @@ fn words_of_calls(rt: HostRuntime) {
         (Call::CapGetmode, "cap_getmode"),
         (Call::Socketpair, "socketpair"),
         (Call::Fork, "fork"),
+        (Call::Use, "use"),
     ] {
         assert!(rt; call.name() == word);
     }

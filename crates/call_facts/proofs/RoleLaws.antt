@@ -34,3 +34,4 @@ roles_agree programs.Cap_enter = refl
 roles_agree programs.Cap_getmode = refl
 roles_agree programs.Socketpair = refl
 roles_agree programs.Fork = refl
+roles_agree (programs.Use x right) = refl

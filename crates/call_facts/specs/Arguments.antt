@@ -56,6 +56,7 @@ arguments programs.Cap_enter = []
 arguments programs.Cap_getmode = []
 arguments programs.Socketpair = []
 arguments programs.Fork = []
+arguments (programs.Use x right) = Descriptor x ∷ Rights right ∷ []
 
 -- the operand of the first descriptor among some arguments, or of one that stands behind so many others
 abbrev pub descriptor_at : ℕ → List Argument → Option Operand

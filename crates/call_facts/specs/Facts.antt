@@ -8,7 +8,7 @@ pub data Role : Type 0 where
   Descriptor : Role
   Path : Role
   Flags : Role  -- how a file is opened
-  Rights : Role  -- what a limit leaves
+  Rights : Role  -- what a limit leaves, or a use needs
   Commands : Role
   Amount : Role  -- a byte, an offset or a length
   Status : Role  -- status flags
@@ -120,6 +120,7 @@ facts_of calls.Cap_enter = plain [] Mode Zero
 facts_of calls.Cap_getmode = plain [] Mode Mode_bit
 facts_of calls.Socketpair = making [] System Pair Number
 facts_of calls.Fork = making [] System Child Process
+facts_of calls.Use = plain (Descriptor ∷ Rights ∷ []) Object Zero
 
 -- how many of its arguments are descriptors
 abbrev pub is_descriptor : Role → Bool
@@ -166,7 +167,7 @@ concerns_mode call = is_mode (facts_of call).scope
 abbrev pub is_of_mode : Call → Bool
 is_of_mode call = concerns_mode call || is_limited (facts_of call).table
 
--- it takes room that the kernel may refuse (ENFILE, ENOSPC, EAGAIN)
+-- the kernel may refuse it, as it takes room (ENFILE, ENOSPC, EAGAIN) or as any call that needs a further right
 abbrev pub may_be_refused : Call → Bool
 may_be_refused calls.Open = true
 may_be_refused calls.Openat = true
@@ -195,6 +196,7 @@ may_be_refused calls.Cap_enter = false
 may_be_refused calls.Cap_getmode = false
 may_be_refused calls.Socketpair = true
 may_be_refused calls.Fork = true
+may_be_refused calls.Use = true
 
 -- what does beneath a directory what a call by a path alone does; of another call itself
 abbrev pub beneath : Call → Call
@@ -225,3 +227,4 @@ beneath calls.Cap_enter = calls.Cap_enter
 beneath calls.Cap_getmode = calls.Cap_getmode
 beneath calls.Socketpair = calls.Socketpair
 beneath calls.Fork = calls.Fork
+beneath calls.Use = calls.Use

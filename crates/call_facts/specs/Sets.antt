@@ -17,9 +17,12 @@ row name bit = record { name = name; bit = bit }
 abbrev pub named_row : (List ℕ × ℕ) → Row
 named_row named = row named.0 named.1
 
--- the rights, without their other names, and the commands
+-- the rights, without their other names; those of the fourteen; and the commands
 abbrev pub right_rows : List Row
-right_rows = map named_row (take 14 right_names)
+right_rows = map named_row (take 46 right_names)
+
+abbrev pub plain_rows : List Row
+plain_rows = map named_row (take 14 right_names)
 
 abbrev pub command_rows : List Row
 command_rows = map named_row command_names

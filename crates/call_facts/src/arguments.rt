@@ -16,7 +16,7 @@ pub enum Argument<'a> {
     Path(&'a [u8]),
     /// How a file is opened.
     Flags(OpenFlags),
-    /// The rights that a limit leaves.
+    /// The rights that a limit leaves, or the one that a use needs.
     Rights(Rights),
     /// The fcntl commands that a limit leaves.
     Commands(Fcntls),
@@ -68,9 +68,11 @@ pub fn arguments_of(call: &Syscall) -> Arguments<'_>
         Syscall::FcntlSetfl { descriptor, flags } => {
             Arguments::Two(Argument::Descriptor(*descriptor), Argument::Status(*flags))
         }
-        Syscall::CapRightsLimit { descriptor, rights } => {
-            Arguments::Two(Argument::Descriptor(*descriptor), Argument::Rights(*rights))
-        }
+        Syscall::CapRightsLimit { descriptor, rights }
+        | Syscall::Use {
+            descriptor,
+            right: rights,
+        } => { Arguments::Two(Argument::Descriptor(*descriptor), Argument::Rights(*rights)) }
         Syscall::CapFcntlsLimit {
             descriptor,
             commands,

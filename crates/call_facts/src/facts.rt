@@ -15,7 +15,7 @@ pub enum Role {
     Path,
     /// How a file is opened.
     Flags,
-    /// The rights that a limit leaves.
+    /// The rights that a limit leaves, or the one that a use needs.
     Rights,
     /// The fcntl commands that a limit leaves.
     Commands,
@@ -250,6 +250,7 @@ fn facts_of(call: Call) -> Facts
         Call::CapGetmode => Facts::plain(&[], Scope::Mode, Answer::ModeBit),
         Call::Socketpair => Facts::making(&[], Scope::System, TableChange::Pair, Answer::Number),
         Call::Fork => Facts::making(&[], Scope::System, TableChange::Child, Answer::Process),
+        Call::Use => Facts::plain(&[Descriptor, Rights], Scope::Object, Answer::Zero),
     }
 }
 
@@ -392,13 +393,13 @@ pub fn is_of_mode(call: Call) -> bool
     concerns_mode(call) || is_limited(table_change(call))
 }
 
-/// Whether it takes room that the kernel may refuse. (ENFILE, ENOSPC, EAGAIN)
+/// Whether the kernel may refuse it: as it takes room (ENFILE, ENOSPC, EAGAIN), or as any call that needs a further right. (own)
 pub fn may_be_refused(call: Call) -> bool
     ensures { result ≡ may_be_refused (call_of call) }
 {
     match call {
         Call::Open | Call::Openat | Call::Write => true,
-        Call::Mkdirat | Call::Mkdir | Call::Socketpair | Call::Fork => true,
+        Call::Mkdirat | Call::Mkdir | Call::Socketpair | Call::Fork | Call::Use => true,
         Call::Read | Call::Sendfd | Call::Recvfd | Call::Lseek | Call::Ftruncate => false,
         Call::Fsync | Call::Fstat | Call::Fstatat | Call::Stat => false,
         Call::FcntlGetfl | Call::FcntlSetfl | Call::Unlinkat | Call::Unlink => false,
@@ -421,6 +422,6 @@ pub fn beneath(call: Call) -> Call
         Call::Fstat | Call::FcntlGetfl | Call::FcntlSetfl | Call::Fstatat => call,
         Call::Mkdirat | Call::Unlinkat | Call::Renameat | Call::Dup => call,
         Call::Close | Call::CapRightsLimit | Call::CapFcntlsLimit | Call::CapEnter => call,
-        Call::CapGetmode | Call::Socketpair | Call::Fork => call,
+        Call::CapGetmode | Call::Socketpair | Call::Fork | Call::Use => call,
     }
 }

@@ -1,10 +1,10 @@
 //! What a call may do, as a policy counts it.
 
-ghost use Rattle.std.specs.Prelude.{◌≡◌, map};
+ghost use Rattle.std.specs.Prelude.{◌≡◌, map, option_map};
 ghost use Rattle.rights.specs.Views.{call_of, operation_of};
-ghost use Rattle.call_facts.specs.Operations.{first_operations, opening};
+ghost use Rattle.call_facts.specs.Operations.{first_operations, opening, operation_alone};
 
-use rights::{Call, Op, OpenFlags};
+use rights::{Call, Op, OpenFlags, Rights, operation_of_use};
 
 /// What opening itself does.
 fn opening(flags: OpenFlags) -> &'static [Op]
@@ -18,9 +18,24 @@ fn opening(flags: OpenFlags) -> &'static [Op]
     }
 }
 
-/// What a call may do to what its first descriptor is of, or beneath it, or from the root. `flags` are those of an open; else they are ignored.
-pub fn first_operations(call: Call, flags: OpenFlags) -> &'static [Op]
-    ensures { map operation_of result.now ≡ first_operations (call_of call) flags }
+/// An operation, if there is one.
+fn alone(operation: Option<Op>) -> &'static [Op]
+    ensures { map operation_of result.now ≡ operation_alone (option_map operation_of operation) }
+{
+    match operation {
+        None => &[],
+        Some(Op::Look) => &[Op::Look],
+        Some(Op::Read) => &[Op::Read],
+        Some(Op::Write) => &[Op::Write],
+        Some(Op::Create) => &[Op::Create],
+        Some(Op::Remove) => &[Op::Remove],
+    }
+}
+
+/// What a call may do to what its first descriptor is of, or beneath it, or from the root. `flags` are those of an open, and `right`
+/// is the further right of a use; of other calls they are ignored.
+pub fn first_operations(call: Call, flags: OpenFlags, right: Rights) -> &'static [Op]
+    ensures { map operation_of result.now ≡ first_operations (call_of call) flags right.0 }
 {
     match call {
         Call::Open | Call::Openat => opening(flags),
@@ -33,5 +48,6 @@ pub fn first_operations(call: Call, flags: OpenFlags) -> &'static [Op]
         Call::FcntlGetfl | Call::FcntlSetfl | Call::Dup | Call::Close => &[],
         Call::CapRightsLimit | Call::CapFcntlsLimit | Call::CapEnter => &[],
         Call::CapGetmode | Call::Socketpair | Call::Fork => &[],
+        Call::Use => alone(operation_of_use(right)),
     }
 }

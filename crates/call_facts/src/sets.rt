@@ -5,10 +5,10 @@ ghost use Rattle.std.specs.Str.{bytes_eq};
 ghost use Rattle.texts.specs.PageViews.{Adds};
 ghost use Rattle.texts.specs.Parts.{parts};
 ghost use Rattle.call_facts.specs.MemberViews.{command_seen, flag_seen, right_seen};
-ghost use Rattle.call_facts.specs.Sets.{command_rows, flag_rows, flag_set, has_word, listed, member_names, request_of_word, right_rows, set_of_list, set_word};
+ghost use Rattle.call_facts.specs.Sets.{command_rows, flag_rows, flag_set, has_word, listed, member_names, plain_rows, request_of_word, right_rows, set_of_list, set_word};
 
 use bitflags::{Flag, Flags};
-use rights::limits::{COMMANDS, RIGHTS};
+use rights::limits::{COMMANDS, PLAIN_RIGHTS, RIGHTS};
 use rights::{Fcntls, OpenFlags, Rights};
 use texts::{Page, Say, first_part, parts_of, say};
 
@@ -21,7 +21,7 @@ trait Member {
     fn name(&self) -> &'static str
         ensures { result.now ≡ (member self.now).name };
 
-    fn bit(&self) -> u16
+    fn bit(&self) -> u64
         ensures { result ≡ (member self.now).bit };
 }
 
@@ -32,7 +32,7 @@ impl Member for Flag<Rights> {
         self.name
     }
 
-    fn bit(&self) -> u16 {
+    fn bit(&self) -> u64 {
         self.value.bits()
     }
 }
@@ -44,8 +44,8 @@ impl Member for Flag<Fcntls> {
         self.name
     }
 
-    fn bit(&self) -> u16 {
-        u16::from(self.value.bits())
+    fn bit(&self) -> u64 {
+        u64::from(self.value.bits())
     }
 }
 
@@ -53,7 +53,7 @@ impl Member for Flag<Fcntls> {
 #[derive(Clone, Copy)]
 struct OpenFlag {
     name: &'static str,
-    bit: u16,
+    bit: u64,
 }
 
 impl Member for OpenFlag {
@@ -63,7 +63,7 @@ impl Member for OpenFlag {
         self.name
     }
 
-    fn bit(&self) -> u16 {
+    fn bit(&self) -> u64 {
         self.bit
     }
 }
@@ -73,6 +73,13 @@ fn right_rows() -> &'static [Flag<Rights>]
     ensures { map right_seen result.now ≡ right_rows }
 {
     &Rights::flags()[..RIGHTS]
+}
+
+/// Those of the fourteen.
+fn plain_rows() -> &'static [Flag<Rights>]
+    ensures { map right_seen result.now ≡ plain_rows }
+{
+    &Rights::flags()[..PLAIN_RIGHTS]
 }
 
 /// The fcntl commands.
@@ -136,8 +143,8 @@ fn has_word(name: &str, list: &[u8]) -> bool
 
 /// The set of the members that a list names.
 #[tactic(auto, unfolding(crate::specs::Sets::set_of_list))]
-fn set_of<M: Member>(rows: &[M], list: &[u8]) -> u16
-    requires { sum_by (λ r. r.bit) (map M.member rows.now) < 2 ^ 16 }
+fn set_of<M: Member>(rows: &[M], list: &[u8]) -> u64
+    requires { sum_by (λ r. r.bit) (map M.member rows.now) < 2 ^ 64 }
     ensures value { result ≡ set_of_list (map M.member rows.now) list.now }
     ensures within { result ≤ sum_by (λ r. r.bit) (map M.member rows.now) }
 {
@@ -151,7 +158,7 @@ fn set_of<M: Member>(rows: &[M], list: &[u8]) -> u16
 }
 
 /// Adds the names of the members of a set, lowest bit first: the first of them behind a separator, the others behind commas.
-fn add_members<M: Member>(page: &mut Page, separator: &'static str, rows: &[M], set: u16)
+fn add_members<M: Member>(page: &mut Page, separator: &'static str, rows: &[M], set: u64)
     ensures { Adds page.old page.new (listed separator.now (member_names (map M.member rows.now) set)) }
 {
     match rows {
@@ -168,7 +175,7 @@ fn add_members<M: Member>(page: &mut Page, separator: &'static str, rows: &[M], 
 
 /// Adds a set.
 #[tactic(auto, unfolding(crate::specs::Sets::set_word))]
-fn add_set<M: Member>(page: &mut Page, rows: &[M], set: u16)
+fn add_set<M: Member>(page: &mut Page, rows: &[M], set: u64)
     ensures { Adds page.old page.new (set_word (map M.member rows.now) set) }
 {
     if set == 0 {
@@ -189,19 +196,19 @@ pub fn add_rights(page: &mut Page, rights: Rights)
 pub fn add_commands(page: &mut Page, commands: Fcntls)
     ensures { Adds page.old page.new (set_word command_rows commands.0) }
 {
-    add_set(page, command_rows(), u16::from(commands.bits()));
+    add_set(page, command_rows(), u64::from(commands.bits()));
 }
 
 /// The set of the flags of an open.
 #[tactic(auto, unfolding(crate::specs::Sets::flag_set))]
-fn flag_set(flags: OpenFlags) -> u16
+fn flag_set(flags: OpenFlags) -> u64
     ensures { result ≡ flag_set flags }
 {
-    u16::from(flags.read())
-        + 2 * u16::from(flags.write())
-        + 4 * u16::from(flags.append())
-        + 8 * u16::from(flags.create())
-        + 16 * u16::from(flags.trunc())
+    u64::from(flags.read())
+        + 2 * u64::from(flags.write())
+        + 4 * u64::from(flags.append())
+        + 8 * u64::from(flags.create())
+        + 16 * u64::from(flags.trunc())
 }
 
 /// Adds the flags of an open.
@@ -216,6 +223,13 @@ pub fn read_rights(list: &[u8]) -> Rights
     ensures { result.0 ≡ set_of_list right_rows list.now }
 {
     Rights::from_bits_retain(set_of(right_rows(), list))
+}
+
+/// Those of the fourteen that a list names.
+pub fn read_plain_rights(list: &[u8]) -> Rights
+    ensures { result.0 ≡ set_of_list plain_rows list.now }
+{
+    Rights::from_bits_retain(set_of(plain_rows(), list))
 }
 
 /// The fcntl commands that a list names.

@@ -9,6 +9,7 @@ use Rattle.rights.specs.Limits.{most_programs}
 use Rattle.certificate.specs.Order.{same_class}
 use Rattle.certificate.specs.Bounds.{Authority, Ceiling, End, Certificate, ChannelBound, has_authorities}
 use Rattle.certificate.specs.Lines.{Line, Begins_block, Bounds_register, Bounds_slot, Bounds_channel, Begins_authority, Bounds_grant, Holds_end, authority_lines, is_of_version, rest_lines}
+use Rattle.certificate.specs.Told.{is_told_ceiling}
 use Rattle.certificate.specs.Growth.{IsCertificate, begins, grows, above_ceilings, above_channels, above_ends, classes_held, classes_in_line, classes_of}
 use Rattle.certificate.specs.Growth.{distinct, distinct_behind, has_none, most_classes, open_authority, programs_in_line, programs_named}
 use Rattle.certificate.specs.Growth.{programs_of_authority, programs_of_block}
@@ -182,7 +183,7 @@ classes_few _ (grows {c} {d} valid line proper own took) =
     subst (λ e. length (distinct same_class (classes_of e)) ≤ most_classes) is.made
     (subst (λ classes. length (distinct same_class classes) ≤ most_classes) (sym (classes_made c line is.place)) few)
 
--- AUTHORITIES stand in version 3 alone.
+-- AUTHORITIES stand in versions 3 and 4 alone.
 has_none_made : (c : Certificate) (line : Line) → is_of_version c.version line ≡ true → has_authorities c.version ≡ false
     → c.authorities ≡ [] → (with_line c line).authorities ≡ []
 has_none_made c (Begins_block program point mode) own without is = is
@@ -190,7 +191,8 @@ has_none_made c (Bounds_register register interval) own without is = is
 has_none_made c (Bounds_slot number slot) own without is = is
 has_none_made c (Bounds_channel channel) own without is = is
 has_none_made c (Begins_authority program) own without is = absurd (let both : true ≡ false = sym own ∙ without in cc)
-has_none_made c (Bounds_grant ceiling) own without is = absurd (let both : true ≡ false = sym own ∙ without in cc)
+has_none_made c (Bounds_grant ceiling) own without is =
+    absurd (let both : true ≡ false = sym (and_left (has_authorities c.version) (is_told_ceiling c.version ceiling.rights) own) ∙ without in cc)
 has_none_made c (Holds_end held) own without is = absurd (let both : true ≡ false = sym own ∙ without in cc)
 
 pub authorities_alone : (c : Certificate) → IsCertificate c → has_authorities c.version ≡ false → c.authorities ≡ []

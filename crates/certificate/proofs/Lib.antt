@@ -1,9 +1,11 @@
 pub mod Smaller
 pub mod Joining
+pub mod Changing
 pub mod JoinTwice
 pub mod Ranges
 pub mod Rows
 pub mod JoinRows
+mod ToldRows
 pub mod Kept
 pub mod Last
 pub mod LastOnes
@@ -21,3 +23,5 @@ pub mod Fits
 pub mod Makes
 pub mod Whole
 pub mod Outcomes
+pub mod ToldLaws
+pub mod OwnTold

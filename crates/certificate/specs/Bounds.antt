@@ -74,16 +74,24 @@ pub record Authority : Type 0 where
   pub holds : List End
 
 -- In version 1 each bound is written; in version 2 bounds are carried along between points where ways meet; in version
--- 3 they are too, and programs have authorities.
+-- 3 they are too, and programs have authorities; and version 4 says of further rights which of them a descriptor has.
 pub data Version : Type 0 where
   One : Version
   Two : Version
   Three : Version
+  Four : Version
 
 abbrev pub has_authorities : Version → Bool
 has_authorities One = false
 has_authorities Two = false
 has_authorities Three = true
+has_authorities Four = true
+
+abbrev pub tells_further : Version → Bool
+tells_further One = false
+tells_further Two = false
+tells_further Three = false
+tells_further Four = true
 
 pub record Certificate : Type 0 where
   pub version : Version

@@ -9,6 +9,7 @@ pub mod Lines
 pub mod Growth
 pub mod Rising
 pub mod Room
+pub mod Told
 pub mod Views
 pub mod GrowthViews
 pub mod CountViews

@@ -8,6 +8,7 @@ use Rattle.rights.specs.Sets.{all_commands, all_rights, is_within}
 use Rattle.texts.specs.Names.{is_name}
 use Rattle.certificate.specs.Bounds.{ModeBound, Interval, full_interval, Target, In_grant, Any_node, Socket, Unknown, Held, Slot, Closed, Open, Maybe, PointBound, ChannelBound, Ceiling, End}
 use Rattle.certificate.specs.Bounds.{Authority, Version, Certificate, has_authorities, held_in}
+use Rattle.certificate.specs.Told.{is_told, is_told_ceiling}
 
 -- The block of a point begins, with its mode; then a register of it isn't full, then a slot of it isn't closed; what one
 -- side of a class of pairs sends; and the authority of a program begins, then a ceiling of it, then an end that it may hold.
@@ -106,14 +107,14 @@ has_names (Holds_end held) = is_named_class held.class && nat_lt held.side 2
 abbrev pub is_line : Line → Bool
 is_line line = has_names line && is_proper line && is_numbered line
 
--- Authorities stand in version 3 alone.
+-- Authorities stand in versions 3 and 4 alone, and before version 4 nothing is said of further rights.
 abbrev pub is_of_version : Version → Line → Bool
 is_of_version version (Begins_block program point mode) = true
 is_of_version version (Bounds_register register interval) = true
-is_of_version version (Bounds_slot number slot) = true
-is_of_version version (Bounds_channel channel) = true
+is_of_version version (Bounds_slot number slot) = is_told version (held_in slot)
+is_of_version version (Bounds_channel channel) = is_told version channel.sends
 is_of_version version (Begins_authority program) = has_authorities version
-is_of_version version (Bounds_grant ceiling) = has_authorities version
+is_of_version version (Bounds_grant ceiling) = has_authorities version && is_told_ceiling version ceiling.rights
 is_of_version version (Holds_end held) = has_authorities version
 
 -- THE LINES OF A CERTIFICATE: block by block its mode, its registers that aren't full and its slots that aren't closed,

@@ -52,7 +52,7 @@ pub record Within (a b : Held) : Type 0 where
   pub least_fcntls : is_within b.least_fcntls a.least_fcntls ≡ true
   pub greatest_fcntls : is_within a.greatest_fcntls b.greatest_fcntls ≡ true
 
-parts : (a b : Held) → held_within a b ≡ true → Within a b
+pub parts : (a b : Held) → held_within a b ≡ true → Within a b
 parts a b within =
     let four = both_left _ (is_within a.greatest_fcntls b.greatest_fcntls) within in
     let three = both_left _ (is_within b.least_fcntls a.least_fcntls) four in

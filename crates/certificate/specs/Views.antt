@@ -1,5 +1,5 @@
 -- What the values of the code stand for.
-use Rattle.std.specs.Prelude.{ℕ, List, [], ◌∷◌, map, option_map, slice_set}
+use Rattle.std.specs.Prelude.{List, [], ◌∷◌, map, option_map, slice_set}
 use Rattle.certificate.specs.declared.classes.Class.{Class as ClassCode}
 use Rattle.certificate.specs.declared.classes.Class.TheVariants as class
 use Rattle.certificate.specs.declared.bounds.ModeBound.{ModeBound as ModeBoundCode}
@@ -25,7 +25,7 @@ use Rattle.rights.specs.Classes.{Class, Initial, Made_at}
 use Rattle.rights.specs.Limits.{most_descriptors}
 use Rattle.rights.specs.Views.{side_seen}
 use Rattle.certificate.specs.Bounds.{ModeBound, Off, On, Either, Interval, Target, In_grant, Any_node, Socket, Unknown, Held, Slot, Closed, Open, Maybe, Bound, PointBound}
-use Rattle.certificate.specs.Bounds.{ChannelBound, Ceiling, End, Authority, Version, One, Two, Three, Certificate}
+use Rattle.certificate.specs.Bounds.{ChannelBound, Ceiling, End, Authority, Version, One, Two, Three, Four, Certificate}
 use Rattle.certificate.specs.Growth.{copies}
 use Rattle.texts.specs.Views.{name_of}
 use Rattle.certificate.specs.Lines.{Line, Begins_block, Bounds_register, Bounds_slot, Bounds_channel, Begins_authority, Bounds_grant, Holds_end}
@@ -102,6 +102,7 @@ abbrev pub version_of : VersionCode → Version
 version_of version.One = One
 version_of version.Two = Two
 version_of version.Three = Three
+version_of version.Four = Four
 
 abbrev pub certificate_with : Version → List PointCode → List ChannelCode → List AuthorityCode → Certificate
 certificate_with v points channels authorities = record {

@@ -16,7 +16,8 @@ use std::alloc::Global;
 use std::cmp::Ordering;
 use std::marker::Model;
 
-/// What a certificate leaves to be carried along, and whether programs have authorities. (own)
+/// What a certificate leaves to be carried along, whether programs have authorities, and whether it says of further rights which
+/// of them a descriptor has. (own)
 #[derive(Clone, Copy, PartialEq, Eq)]
 pub enum Version {
     /// Nothing: each bound is written.
@@ -25,10 +26,13 @@ pub enum Version {
     Two,
     /// The same; and programs have authorities.
     Three,
+    /// The same; and of further rights it says which of them a descriptor has. In the versions before it nothing is said of them: a
+    /// descriptor may have any of them or none.
+    Four,
 }
 
 impl Version {
-    ghost use Rattle.certificate.specs.Bounds.{has_authorities};
+    ghost use Rattle.certificate.specs.Bounds.{has_authorities, tells_further};
     ghost use Rattle.certificate.specs.Views.{version_of};
 
     /// Whether programs have authorities in it.
@@ -37,7 +41,17 @@ impl Version {
     {
         match self {
             Version::One | Version::Two => false,
-            Version::Three => true,
+            Version::Three | Version::Four => true,
+        }
+    }
+
+    /// Whether it says of further rights which of them a descriptor has.
+    pub fn tells_further(self) -> bool
+        ensures { result ≡ tells_further (version_of self) }
+    {
+        match self {
+            Version::One | Version::Two | Version::Three => false,
+            Version::Four => true,
         }
     }
 }

@@ -15,6 +15,7 @@ pub mod order;
 pub mod points;
 mod program_names;
 mod saying;
+mod telling;
 
 pub use authorities::{Authority, Ceiling, End};
 pub use blocks::{push_authorities, push_block, push_channels};
@@ -26,3 +27,4 @@ pub use lines::{Channel, Line, Refusal};
 pub use order::slots_within;
 pub use points::Point;
 pub use rights::Side;
+pub use saying::{ToldHeld, ToldSlot};

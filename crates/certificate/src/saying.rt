@@ -4,20 +4,26 @@ ghost use Rattle.std.specs.Prelude.{None};
 
 use crate::bounds::{FcntlsRange, Held, Interval, ModeBound, RightsRange, Slot, Target};
 use crate::classes::Class;
-use rights::Fcntls;
-use texts::{Page, Say, say};
+use rights::{Fcntls, Rights};
+use texts::{Page, Say, ToldRights, say};
 
-/// What a range of rights goes from and to, or that it is all of them.
-impl Say for RightsRange {
-    ghost said = { λ range. None };
+/// Rights, as they are to be told: in a task that asks for no further ones nothing is said of these where a set has all of them.
+fn told(wide: bool, rights: Rights) -> Rights {
+    if wide { rights } else { rights.noted() }
+}
 
-    fn say(self, page: &mut Page) {
-        let (least, greatest) = (self.least(), self.greatest());
-        if least == greatest {
-            return least.say(page);
-        }
-        say!(page; "at least ", least, " and at most ", greatest)
+/// Adds what a range of rights goes from and to, or that it is all of them.
+fn add_range(page: &mut Page, wide: bool, range: RightsRange) {
+    let (least, greatest) = (range.least(), range.greatest());
+    let most = ToldRights {
+        wide,
+        rights: greatest,
+    };
+    if told(wide, least) == told(wide, greatest) {
+        return most.say(page);
     }
+    let rights = least;
+    say!(page; "at least ", ToldRights { wide, rights }, " and at most ", most)
 }
 
 /// What a range of commands goes from and to, unless it is all of them.
@@ -62,24 +68,41 @@ impl Say for Target {
     }
 }
 
-/// What a descriptor is of, and its rights and commands.
-impl Say for Held {
-    ghost said = { λ held. None };
+/// What a descriptor may be, as it is told of a task that asks for further rights or of another.
+#[derive(Clone, Copy)]
+pub struct ToldHeld {
+    pub wide: bool,
+    pub held: Held,
+}
+
+/// What it is of, and its rights and commands.
+impl Say for ToldHeld {
+    ghost said = { λ told. None };
 
     fn say(self, page: &mut Page) {
-        say!(page; self.target(), " with ", self.rights(), self.fcntls())
+        let (wide, held) = (self.wide, self.held);
+        say!(page; held.target(), " with ");
+        add_range(page, wide, held.rights());
+        say!(page; held.fcntls())
     }
 }
 
-/// What a number of a table may be.
-impl Say for Slot {
-    ghost said = { λ slot. None };
+/// What a number of a table may be, as it is told of a task that asks for further rights or of another.
+#[derive(Clone, Copy)]
+pub struct ToldSlot {
+    pub wide: bool,
+    pub slot: Slot,
+}
+
+impl Say for ToldSlot {
+    ghost said = { λ told. None };
 
     fn say(self, page: &mut Page) {
-        match self {
+        let wide = self.wide;
+        match self.slot {
             Slot::Closed => "closed".say(page),
-            Slot::Open(held) => say!(page; "open, ", held),
-            Slot::Maybe(held) => say!(page; "maybe open, ", held),
+            Slot::Open(held) => say!(page; "open, ", ToldHeld { wide, held }),
+            Slot::Maybe(held) => say!(page; "maybe open, ", ToldHeld { wide, held }),
         }
     }
 }

@@ -37,13 +37,13 @@ abbrev of_first : List ℕ → Reading
 of_first line = certificate_of_text (text (line ∷ codes "end" ∷ []))
 
 no_version :
-    (of_first (codes "capcert 4") ≡ fails Syntax 0) × (of_first (codes "capcert 03") ≡ fails Syntax 0) × (of_first (codes "capcert 0") ≡ fails Syntax 0) ×
+    (of_first (codes "capcert 5") ≡ fails Syntax 0) × (of_first (codes "capcert 04") ≡ fails Syntax 0) × (of_first (codes "capcert 03") ≡ fails Syntax 0) × (of_first (codes "capcert 0") ≡ fails Syntax 0) ×
     (of_first (codes "capcert 02") ≡ fails Syntax 0)
     × (of_first (codes "capcert 2x") ≡ fails Syntax 0) × (of_first (codes "capcert 12") ≡ fails Syntax 0) × (of_first (codes "capcert 1 ") ≡ fails Syntax 0)
     × (of_first (codes "capcert  2") ≡ fails Syntax 0) × (of_first (codes "capcert 2 1") ≡ fails Syntax 0) × (of_first (codes "capcert") ≡ fails Syntax 0)
     × (of_first (codes "Capcert 2") ≡ fails Syntax 0) × (of_first [] ≡ fails Syntax 0) × (certificate_of_text (codes "capcert 2") ≡ fails Syntax 0)
 unfolding certificate_of_text read_behind line_of_text taken distinct_behind above_blocks above_channels may_bound_register may_bound_slot all_from on_last
-no_version = (refl, refl, refl, refl, refl, refl, refl, refl, refl, refl, refl, refl, refl)
+no_version = (refl, refl, refl, refl, refl, refl, refl, refl, refl, refl, refl, refl, refl, refl)
 
 -- the lines behind the first one
 abbrev of_lines : List (List ℕ) → Reading
@@ -201,3 +201,53 @@ classes_by_authorities :
     × (of_third (channels_from 31 0 ++ codes "auth main" ∷ codes "hold main:0 a" ∷ codes "hold main:1 a" ∷ []) ≡ fails Limit 520)
 unfolding digits certificate_of_text read_behind line_of_text taken distinct_behind above_blocks above_channels may_bound_register may_bound_slot all_from on_last asked_of_last with_last
 classes_by_authorities = (refl, refl, refl)
+
+-- VERSION 4: further rights, in eight digits behind the commands, or behind the rights of a ceiling; in the other versions there is no
+-- word of them.
+abbrev of_fourth : List (List ℕ) → Reading
+of_fourth lines = certificate_of_text (text (codes "capcert 4" ∷ (lines ++ codes "end" ∷ [])))
+
+-- a line of a block that begins at 10; the line's offset is 24
+abbrev in_third_block : List ℕ → Reading
+in_third_block line = of_third (codes "at main 0 off" ∷ line ∷ [])
+
+abbrev in_fourth_block : List ℕ → Reading
+in_fourth_block line = of_fourth (codes "at main 0 off" ∷ line ∷ [])
+
+not_before_version_4 :
+    (in_third_block (codes "fd 0 open grant work 0081 3fff 3 3 00000000 00000000") ≡ fails Syntax 24)
+    × (in_third_block (codes "fd 0 open grant work 0081 3fff 3 3 00000000") ≡ fails Syntax 24)
+    × (in_third_block (codes "fd 0 open grant work 0081 7fff 3 3") ≡ fails Syntax 24)
+    × (of_third (codes "chan @0 a grant work 0081 3fff 3 3 00000000 ffffffff" ∷ []) ≡ fails Syntax 10)
+    × (of_third (codes "auth main" ∷ codes "ceil work 0081 00000000" ∷ []) ≡ fails Syntax 20)
+    × (in_block (codes "fd 0 open grant work 0081 3fff 3 3 00000000 00000000") ≡ fails Syntax 24)
+    × (of_third (codes "capcert 4" ∷ []) ≡ fails Syntax 10) × (of_fourth (codes "capcert 3" ∷ []) ≡ fails Syntax 10)
+unfolding certificate_of_text read_behind line_of_text taken distinct_behind above_blocks above_channels may_bound_register may_bound_slot all_from on_last asked_of_last with_last
+not_before_version_4 = (refl, refl, refl, refl, refl, refl, refl, refl)
+
+further_forms :
+    (in_fourth_block (codes "fd 0 open grant work 0081 3fff 3 3") ≡ fails Syntax 24)
+    × (in_fourth_block (codes "fd 0 open grant work 0081 3fff 3 3 00000010") ≡ fails Syntax 24)
+    × (in_fourth_block (codes "fd 0 open grant work 0081 3fff 3 3 00000010 00000010 00000010") ≡ fails Syntax 24)
+    × (in_fourth_block (codes "fd 0 open grant work 0081 3fff 3 3 0000010 00000010") ≡ fails Syntax 24)
+    × (in_fourth_block (codes "fd 0 open grant work 0081 3fff 3 3 000000010 00000010") ≡ fails Syntax 24)
+    × (in_fourth_block (codes "fd 0 open grant work 0081 3fff 3 3 0000000a 0000000A") ≡ fails Syntax 24)
+    × (in_fourth_block (codes "fd 0 open grant work 0081 3fff 3 3 00000010 00000020") ≡ fails Syntax 24)
+    × (in_fourth_block (codes "fd 0 open grant work 0081 0001 3 3 00000010 00000010") ≡ fails Syntax 24)
+    × (in_fourth_block (codes "fd 0 open grant work 0081 7fff 3 3 00000010 00000010") ≡ fails Syntax 24)
+    × (in_fourth_block (codes "fd 0 open grant work 00000010 00000010 0081 3fff 3 3") ≡ fails Syntax 24)
+    × (in_fourth_block (codes "fd 16 open grant work 0081 3fff 3 3 00000010 00000010") ≡ fails Limit 24)
+    × (in_fourth_block (codes "fd 16 open grant work 0081 3fff 3 3 00000010 00000020") ≡ fails Syntax 24)
+    × (of_fourth (codes "chan @0 a unknown 0000 3fff 0 3" ∷ []) ≡ fails Syntax 10) × (of_fourth (codes "chan @0 a none 00000000 00000000" ∷ []) ≡ fails Syntax 10)
+unfolding certificate_of_text read_behind line_of_text taken distinct_behind above_blocks above_channels may_bound_register may_bound_slot all_from on_last
+further_forms = (refl, refl, refl, refl, refl, refl, refl, refl, refl, refl, refl, refl, refl, refl)
+
+further_ceilings :
+    (of_fourth (codes "auth main" ∷ codes "ceil work 0081" ∷ []) ≡ fails Syntax 20)
+    × (of_fourth (codes "auth main" ∷ codes "ceil work 0000 00000000" ∷ []) ≡ fails Syntax 20)
+    × (of_fourth (codes "auth main" ∷ codes "ceil work 4000 00000000" ∷ []) ≡ fails Syntax 20)
+    × (of_fourth (codes "auth main" ∷ codes "ceil work 0081 0010" ∷ []) ≡ fails Syntax 20)
+    × (of_fourth (codes "auth main" ∷ codes "ceil work 0081 00000010 00000010" ∷ []) ≡ fails Syntax 20)
+    × (of_fourth (codes "ceil work 0081 00000010" ∷ []) ≡ fails Order 10)
+unfolding certificate_of_text read_behind line_of_text taken distinct_behind asked_of_last with_last
+further_ceilings = (refl, refl, refl, refl, refl, refl)

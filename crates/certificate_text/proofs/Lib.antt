@@ -6,6 +6,8 @@ pub mod Growing
 pub mod LineBack
 pub mod Written
 pub mod GatheredTexts
+pub mod RightSets
+pub mod SetWords
 pub mod WordsBack
 pub mod LineText
 pub mod OneSpelling
@@ -14,3 +16,4 @@ pub mod Loops
 pub mod GatheredLoops
 pub mod Pieces
 pub mod Spaced
+pub mod Unsided

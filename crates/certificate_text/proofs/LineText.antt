@@ -3,7 +3,7 @@ use Rattle.std.proofs.Common.{◌≡◌, ℕ, Bool, true, false, cond, List, [],
 use Rattle.std.specs.Prelude.{◌==◌, nat_le, codes, Option, Some, None, Result, Ok, Err}
 use Rattle.std.specs.Str.{bytes_eq}
 use Rattle.std.proofs.lemmas.Bool.{and_from, and_parts}
-use Rattle.rights.specs.Sets.{all_commands, all_rights}
+use Rattle.rights.specs.Sets.{all_commands}
 use Rattle.rights.proofs.Words.{same_bytes}
 use Rattle.texts.specs.Hex.{hex_of, hex_text}
 use Rattle.texts.specs.Numbers.{number_of}
@@ -13,15 +13,17 @@ use Rattle.texts.proofs.NumberTexts.{decimal-number}
 use Rattle.texts.proofs.WordLaws.{joined-parts}
 use Rattle.certificate.specs.Bounds.{ModeBound, Interval, Target, In_grant, Any_node, Socket, Unknown, Held, Slot, Open, Maybe, Version, full_interval, has_authorities, held_in}
 use Rattle.certificate.specs.Lines.{Line, Begins_authority, Bounds_register, Bounds_slot, are_held, are_named, are_numbered, is_bound_slot, is_held_bound, is_interval, is_line}
-use Rattle.certificate.specs.Lines.{is_ceiling, is_of_version, is_named_target, is_numbered_target, is_range}
+use Rattle.certificate.specs.Lines.{is_of_version, is_named_target, is_numbered_target, is_range}
+use Rattle.certificate.specs.Told.{is_told}
 use Rattle.certificate_text.specs.Faults.{Fault, Syntax, Limit, both, formed, with_part}
 use Rattle.certificate_text.specs.Readings.{line_of_text}
-use Rattle.certificate_text.specs.Texts.{held_words, line_text, line_words, sends_words, slot_words, target_words}
-use Rattle.certificate_text.specs.Words.{authority_of_words, ceiling_from, ceiling_of_words, ceiling_with, end_of_words, end_with, later_line}
+use Rattle.certificate_text.specs.Texts.{held_words, line_text, line_words, sends_words, set_words, slot_words, target_words}
+use Rattle.certificate_text.specs.Words.{authority_of_words, ceiling_of_words, ceiling_with, end_of_words, end_with, further_above, further_of_words, later_line, rights_above}
 use Rattle.certificate_text.specs.Words.{block_of_words, block_with, channel_of_words, channel_with, class_of_word, descriptor_of_words, fcntls_of_words, grant_behind, held_behind}
 use Rattle.certificate_text.specs.Words.{held_of_words, held_with, interval_from, line_of_words, mode_of_word, name_of_word, other_line, range_from, register_of_words}
 use Rattle.certificate_text.specs.Words.{rights_of_words, sends_of_words, side_of_word, slot_of_words, socket_behind, up_to}
 use Rattle.certificate_text.proofs.WordsBack.{both-is, with-is, formed-is, up-to-is, name-is, mode-is, side-is, class-is}
+use Rattle.certificate_text.proofs.SetWords.{ceiling-is, range-is, rights-are}
 
 -- INTERVALS AND SETS
 
@@ -60,185 +62,180 @@ record RangeIs (count all : ℕ) (least greatest : List ℕ) (range : ℕ × ℕ
   greatest_is : hex_text count range.1 ≡ greatest
   proper : is_range all range.0 range.1 ≡ true
 
-range-is : (count all : ℕ) (least greatest : List ℕ) (range : ℕ × ℕ) → range_from all (hex_of count least) (hex_of count greatest) ≡ Ok range → RangeIs count all least greatest range
-range-is count all least greatest range is = go (hex_of count least) (hex_of count greatest) refl refl is
-  where
-    within : (a b : ℕ) (proper : Bool) → hex_of count least ≡ Some a → hex_of count greatest ≡ Some b → is_range all a b ≡ proper
-        → cond proper (Ok (a, b)) (Err Syntax) ≡ Ok range → RangeIs count all least greatest range
-    within a b false least_is greatest_is p is = absurd cc
-    within a b true least_is greatest_is p is =
-        let pair : ℕ × ℕ = (a, b) in
-        let same : pair ≡ range = cc in
-        subst (RangeIs count all least greatest) same (record {
-          least_is = sym (hex-text count least a least_is).0;
-          greatest_is = sym (hex-text count greatest b greatest_is).0;
-          proper = p;
-        })
-
-    go : (a b : Option ℕ) → hex_of count least ≡ a → hex_of count greatest ≡ b → range_from all a b ≡ Ok range → RangeIs count all least greatest range
-    go None b least_is greatest_is is = absurd cc
-    go (Some a) None least_is greatest_is is = absurd cc
-    go (Some a) (Some b) least_is greatest_is is = within a b (is_range all a b) least_is greatest_is refl is
+digits-are : (count all : ℕ) (least greatest : List ℕ) (range : ℕ × ℕ) → range_from all (hex_of count least) (hex_of count greatest) ≡ Ok range → RangeIs count all least greatest range
+digits-are count all least greatest range is =
+    let sets = range-is all (hex_of count least) (hex_of count greatest) range is in
+    record {
+      least_is = sym (hex-text count least range.0 sets.least_is).0;
+      greatest_is = sym (hex-text count greatest range.1 sets.greatest_is).0;
+      proper = sets.proper;
+    }
 
 -- DESCRIPTORS
 
 -- the words behind what a descriptor is of
-abbrev set_words : Held → List (List ℕ)
-set_words h = hex_text 4 h.least ∷ hex_text 4 h.greatest ∷ hex_text 1 h.least_fcntls ∷ hex_text 1 h.greatest_fcntls ∷ []
-
-record SetsAre (target : Result Target Fault) (words : List (List ℕ)) (h : Held) : Type 0 where
+record SetsAre (version : Version) (target : Result Target Fault) (words : List (List ℕ)) (h : Held) : Type 0 where
   target_is : target ≡ Ok h.target
-  words_are : set_words h ≡ words
+  words_are : set_words version h ≡ words
   proper : is_held_bound h ≡ true
+  told : is_told version (Some h) ≡ true
 
-sets-are : (target : Result Target Fault) (words : List (List ℕ)) (h : Held) → held_behind target words ≡ Ok h → SetsAre target words h
-sets-are target [] h is = absurd cc
-sets-are target (a ∷ []) h is = absurd cc
-sets-are target (a ∷ b ∷ []) h is = absurd cc
-sets-are target (a ∷ b ∷ c ∷ []) h is = absurd cc
-sets-are target (a ∷ b ∷ c ∷ d ∷ []) h is =
-    let outer = both-is (λ (given : ℕ × ℕ → Held) fcntls. given fcntls) (both held_with target (rights_of_words a b)) (fcntls_of_words c d) h is in
-    let inner = both-is held_with target (rights_of_words a b) outer.left outer.left_is in
-    let rights = range-is 4 all_rights a b inner.right inner.right_is in
-    let fcntls = range-is 1 all_commands c d outer.right outer.right_is in
-    subst (SetsAre target (a ∷ b ∷ c ∷ d ∷ [])) (ap (λ (given : ℕ × ℕ → Held). given outer.right) inner.whole ∙ outer.whole) (record {
+sets-are : (version : Version) (target : Result Target Fault) (words : List (List ℕ)) (h : Held) → held_behind version target words ≡ Ok h → SetsAre version target words h
+sets-are version target [] h is = absurd cc
+sets-are version target (a ∷ []) h is = absurd cc
+sets-are version target (a ∷ b ∷ []) h is = absurd cc
+sets-are version target (a ∷ b ∷ c ∷ []) h is = absurd cc
+sets-are version target (a ∷ b ∷ c ∷ d ∷ words) h is =
+    let read = rights_of_words a b (further_of_words version words) in
+    let outer = both-is (λ (given : ℕ × ℕ → Held) fcntls. given fcntls) (both held_with target read) (fcntls_of_words c d) h is in
+    let inner = both-is held_with target read outer.left outer.left_is in
+    let rights = rights-are version a b words inner.right inner.right_is in
+    let fcntls = digits-are 1 all_commands c d outer.right outer.right_is in
+    subst (SetsAre version target (a ∷ b ∷ c ∷ d ∷ words)) (ap (λ (given : ℕ × ℕ → Held). given outer.right) inner.whole ∙ outer.whole) (record {
       target_is = inner.left_is;
-      words_are = λ i. rights.least_is i ∷ rights.greatest_is i ∷ fcntls.least_is i ∷ fcntls.greatest_is i ∷ [];
+      words_are = λ i. rights.least_is i ∷ rights.greatest_is i ∷ fcntls.least_is i ∷ fcntls.greatest_is i ∷ rights.further_are i;
       proper = and_from _ _ rights.proper fcntls.proper;
+      told = rights.told;
     })
-sets-are target (a ∷ b ∷ c ∷ d ∷ e ∷ words) h is = absurd cc
 
-record HeldIs (words : List (List ℕ)) (h : Held) : Type 0 where
-  words_are : held_words h ≡ words
+record HeldIs (version : Version) (words : List (List ℕ)) (h : Held) : Type 0 where
+  words_are : held_words version h ≡ words
   named : is_named_target h.target ≡ true
   numbered : is_numbered_target h.target ≡ true
   proper : is_held_bound h ≡ true
+  told : is_told version (Some h) ≡ true
 
 -- a descriptor of which it is known what it is of
-held-of : (target : Target) (words : List (List ℕ)) (h : Held) → h.target ≡ target → is_named_target target ≡ true → is_numbered_target target ≡ true
-    → set_words h ≡ words → is_held_bound h ≡ true → HeldIs (target_words target ++ words) h
-held-of target words h is named numbered words_are proper = record {
+held-of : (version : Version) (target : Target) (words : List (List ℕ)) (h : Held) → h.target ≡ target → is_named_target target ≡ true → is_numbered_target target ≡ true
+    → set_words version h ≡ words → is_held_bound h ≡ true → is_told version (Some h) ≡ true → HeldIs version (target_words target ++ words) h
+held-of version target words h is named numbered words_are proper told = record {
   words_are = λ i. target_words (is i) ++ words_are i;
   named = ap is_named_target is ∙ named;
   numbered = ap is_numbered_target is ∙ numbered;
   proper = proper;
+  told = told;
 }
 
 -- the same part of two readings
 same-part : {A : Type 0} (read : Result A Fault) (a b : A) → read ≡ Ok a → read ≡ Ok b → a ≡ b
 same-part read a b left right = cc
 
-grant-is : (words : List (List ℕ)) (h : Held) → grant_behind words ≡ Ok h → HeldIs (codes "grant" ∷ words) h
-grant-is [] h is = absurd cc
-grant-is (name ∷ words) h is =
-    let sets = sets-are (with_part In_grant (name_of_word name)) words h is in
+grant-is : (version : Version) (words : List (List ℕ)) (h : Held) → grant_behind version words ≡ Ok h → HeldIs version (codes "grant" ∷ words) h
+grant-is version [] h is = absurd cc
+grant-is version (name ∷ words) h is =
+    let sets = sets-are version (with_part In_grant (name_of_word name)) words h is in
     let part = with-is In_grant (name_of_word name) h.target sets.target_is in
     let named = name-is name part.0 part.1 in
-    subst (λ word. HeldIs (codes "grant" ∷ word ∷ words) h) named.0
-    (held-of (In_grant part.0) words h (sym part.2) named.1 refl sets.words_are sets.proper)
+    subst (λ word. HeldIs version (codes "grant" ∷ word ∷ words) h) named.0
+    (held-of version (In_grant part.0) words h (sym part.2) named.1 refl sets.words_are sets.proper sets.told)
 
-socket-is : (words : List (List ℕ)) (h : Held) → socket_behind words ≡ Ok h → HeldIs (codes "sock" ∷ words) h
-socket-is [] h is = absurd cc
-socket-is (class ∷ []) h is = absurd cc
-socket-is (class ∷ side ∷ words) h is =
-    let sets = sets-are (both Socket (class_of_word class) (formed (side_of_word side))) words h is in
+socket-is : (version : Version) (words : List (List ℕ)) (h : Held) → socket_behind version words ≡ Ok h → HeldIs version (codes "sock" ∷ words) h
+socket-is version [] h is = absurd cc
+socket-is version (class ∷ []) h is = absurd cc
+socket-is version (class ∷ side ∷ words) h is =
+    let sets = sets-are version (both Socket (class_of_word class) (formed (side_of_word side))) words h is in
     let parts_are = both-is Socket (class_of_word class) (formed (side_of_word side)) h.target sets.target_is in
     let first = class-is class parts_are.left parts_are.left_is in
     let second = side-is side parts_are.right (formed-is (side_of_word side) parts_are.right parts_are.right_is) in
-    let held = held-of (Socket parts_are.left parts_are.right) words h (sym parts_are.whole) (and_from _ _ first.named second.1) first.numbered sets.words_are sets.proper in
+    let held = held-of version (Socket parts_are.left parts_are.right) words h (sym parts_are.whole) (and_from _ _ first.named second.1) first.numbered sets.words_are sets.proper sets.told in
     record {
       words_are = held.words_are ∙ (λ i. codes "sock" ∷ first.word_is i ∷ second.0 i ∷ words);
       named = held.named;
       numbered = held.numbered;
       proper = held.proper;
+      told = held.told;
     }
 
-plain-is : (target : Target) (words : List (List ℕ)) (h : Held) → is_named_target target ≡ true → is_numbered_target target ≡ true
-    → held_behind (Ok target) words ≡ Ok h → HeldIs (target_words target ++ words) h
-plain-is target words h named numbered is =
-    let sets = sets-are (Ok target) words h is in
+plain-is : (version : Version) (target : Target) (words : List (List ℕ)) (h : Held) → is_named_target target ≡ true → is_numbered_target target ≡ true
+    → held_behind version (Ok target) words ≡ Ok h → HeldIs version (target_words target ++ words) h
+plain-is version target words h named numbered is =
+    let sets = sets-are version (Ok target) words h is in
     let same : h.target ≡ target = same-part (Ok target) h.target target sets.target_is refl in
-    held-of target words h same named numbered sets.words_are sets.proper
+    held-of version target words h same named numbered sets.words_are sets.proper sets.told
 
-held-is : (words : List (List ℕ)) (h : Held) → held_of_words words ≡ Ok h → HeldIs words h
-held-is [] h is = absurd cc
-held-is (what ∷ words) h is =
+held-is : (version : Version) (words : List (List ℕ)) (h : Held) → held_of_words version words ≡ Ok h → HeldIs version words h
+held-is version [] h is = absurd cc
+held-is version (what ∷ words) h is =
     go (bytes_eq what (codes "grant")) (bytes_eq what (codes "any")) (bytes_eq what (codes "sock")) (bytes_eq what (codes "unknown")) refl refl refl refl is
   where
-    behind : (word : List ℕ) → bytes_eq what word ≡ true → HeldIs (word ∷ words) h → HeldIs (what ∷ words) h
-    behind word same held = subst (λ w. HeldIs (w ∷ words) h) (sym (same_bytes what word same)) held
+    behind : (word : List ℕ) → bytes_eq what word ≡ true → HeldIs version (word ∷ words) h → HeldIs version (what ∷ words) h
+    behind word same held = subst (λ w. HeldIs version (w ∷ words) h) (sym (same_bytes what word same)) held
 
     go : (grant any sock unknown : Bool) → bytes_eq what (codes "grant") ≡ grant → bytes_eq what (codes "any") ≡ any → bytes_eq what (codes "sock") ≡ sock
         → bytes_eq what (codes "unknown") ≡ unknown
-        → cond grant (grant_behind words) (cond any (held_behind (Ok Any_node) words) (cond sock (socket_behind words) (cond unknown (held_behind (Ok Unknown) words) (Err Syntax)))) ≡ Ok h
-        → HeldIs (what ∷ words) h
-    go true any sock unknown a b c d is = behind (codes "grant") a (grant-is words h is)
-    go false true sock unknown a b c d is = behind (codes "any") b (plain-is Any_node words h refl refl is)
-    go false false true unknown a b c d is = behind (codes "sock") c (socket-is words h is)
-    go false false false true a b c d is = behind (codes "unknown") d (plain-is Unknown words h refl refl is)
+        → cond grant (grant_behind version words) (cond any (held_behind version (Ok Any_node) words) (cond sock (socket_behind version words) (cond unknown (held_behind version (Ok Unknown) words) (Err Syntax)))) ≡ Ok h
+        → HeldIs version (what ∷ words) h
+    go true any sock unknown a b c d is = behind (codes "grant") a (grant-is version words h is)
+    go false true sock unknown a b c d is = behind (codes "any") b (plain-is version Any_node words h refl refl is)
+    go false false true unknown a b c d is = behind (codes "sock") c (socket-is version words h is)
+    go false false false true a b c d is = behind (codes "unknown") d (plain-is version Unknown words h refl refl is)
     go false false false false a b c d is = absurd cc
 
-record SlotIs (words : List (List ℕ)) (slot : Slot) : Type 0 where
-  words_are : slot_words slot ≡ words
+record SlotIs (version : Version) (words : List (List ℕ)) (slot : Slot) : Type 0 where
+  words_are : slot_words version slot ≡ words
   named : are_named (held_in slot) ≡ true
   numbered : are_numbered (held_in slot) ≡ true
   proper : is_bound_slot slot ≡ true
+  told : is_told version (held_in slot) ≡ true
 
-slot-is : (words : List (List ℕ)) (slot : Slot) → slot_of_words words ≡ Ok slot → SlotIs words slot
-slot-is [] slot is = absurd cc
-slot-is (presence ∷ words) slot is = go (bytes_eq presence (codes "open")) (bytes_eq presence (codes "maybe")) refl refl is
+slot-is : (version : Version) (words : List (List ℕ)) (slot : Slot) → slot_of_words version words ≡ Ok slot → SlotIs version words slot
+slot-is version [] slot is = absurd cc
+slot-is version (presence ∷ words) slot is = go (bytes_eq presence (codes "open")) (bytes_eq presence (codes "maybe")) refl refl is
   where
     go : (opens maybe : Bool) → bytes_eq presence (codes "open") ≡ opens → bytes_eq presence (codes "maybe") ≡ maybe
-        → cond opens (with_part Open (held_of_words words)) (cond maybe (with_part Maybe (held_of_words words)) (Err Syntax)) ≡ Ok slot → SlotIs (presence ∷ words) slot
+        → cond opens (with_part Open (held_of_words version words)) (cond maybe (with_part Maybe (held_of_words version words)) (Err Syntax)) ≡ Ok slot → SlotIs version (presence ∷ words) slot
     go true maybe a b is =
-        let part = with-is Open (held_of_words words) slot is in
-        let held = held-is words part.0 part.1 in
-        subst (SlotIs (presence ∷ words)) part.2 (record {
+        let part = with-is Open (held_of_words version words) slot is in
+        let held = held-is version words part.0 part.1 in
+        subst (SlotIs version (presence ∷ words)) part.2 (record {
           words_are = λ i. sym (same_bytes presence (codes "open") a) i ∷ held.words_are i;
           named = held.named;
           numbered = held.numbered;
           proper = held.proper;
+          told = held.told;
         })
     go false true a b is =
-        let part = with-is Maybe (held_of_words words) slot is in
-        let held = held-is words part.0 part.1 in
-        subst (SlotIs (presence ∷ words)) part.2 (record {
+        let part = with-is Maybe (held_of_words version words) slot is in
+        let held = held-is version words part.0 part.1 in
+        subst (SlotIs version (presence ∷ words)) part.2 (record {
           words_are = λ i. sym (same_bytes presence (codes "maybe") b) i ∷ held.words_are i;
           named = held.named;
           numbered = held.numbered;
           proper = held.proper;
+          told = held.told;
         })
     go false false a b is = absurd cc
 
-record SendsAre (words : List (List ℕ)) (sends : Option Held) : Type 0 where
-  words_are : sends_words sends ≡ words
+record SendsAre (version : Version) (words : List (List ℕ)) (sends : Option Held) : Type 0 where
+  words_are : sends_words version sends ≡ words
   named : are_named sends ≡ true
   numbered : are_numbered sends ≡ true
   proper : are_held sends ≡ true
+  told : is_told version sends ≡ true
 
-some-sends : (words : List (List ℕ)) (sends : Option Held) → with_part Some (held_of_words words) ≡ Ok sends → SendsAre words sends
-some-sends words sends is =
-    let part = with-is Some (held_of_words words) sends is in
-    let held = held-is words part.0 part.1 in
-    subst (SendsAre words) part.2 (record { words_are = held.words_are; named = held.named; numbered = held.numbered; proper = held.proper })
+some-sends : (version : Version) (words : List (List ℕ)) (sends : Option Held) → with_part Some (held_of_words version words) ≡ Ok sends → SendsAre version words sends
+some-sends version words sends is =
+    let part = with-is Some (held_of_words version words) sends is in
+    let held = held-is version words part.0 part.1 in
+    subst (SendsAre version words) part.2 (record { words_are = held.words_are; named = held.named; numbered = held.numbered; proper = held.proper; told = held.told })
 
-sends-are : (words : List (List ℕ)) (sends : Option Held) → sends_of_words words ≡ Ok sends → SendsAre words sends
-sends-are [] sends is = absurd cc
-sends-are (what ∷ []) sends is = go (bytes_eq what (codes "none")) refl is
+sends-are : (version : Version) (words : List (List ℕ)) (sends : Option Held) → sends_of_words version words ≡ Ok sends → SendsAre version words sends
+sends-are version [] sends is = absurd cc
+sends-are version (what ∷ []) sends is = go (bytes_eq what (codes "none")) refl is
   where
-    go : (none : Bool) → bytes_eq what (codes "none") ≡ none → cond none (Ok None) (with_part Some (held_of_words (what ∷ []))) ≡ Ok sends → SendsAre (what ∷ []) sends
+    go : (none : Bool) → bytes_eq what (codes "none") ≡ none → cond none (Ok None) (with_part Some (held_of_words version (what ∷ []))) ≡ Ok sends → SendsAre version (what ∷ []) sends
     go true none is =
         let same : None ≡ sends = cc in
-        subst (SendsAre (what ∷ [])) same
-        (record { words_are = ap (λ w. w ∷ []) (sym (same_bytes what (codes "none") none)); named = refl; numbered = refl; proper = refl })
-    go false none is = some-sends (what ∷ []) sends is
-sends-are (what ∷ next ∷ words) sends is = some-sends (what ∷ next ∷ words) sends is
+        subst (SendsAre version (what ∷ [])) same
+        (record { words_are = ap (λ w. w ∷ []) (sym (same_bytes what (codes "none") none)); named = refl; numbered = refl; proper = refl; told = refl })
+    go false none is = some-sends version (what ∷ []) sends is
+sends-are version (what ∷ next ∷ words) sends is = some-sends version (what ∷ next ∷ words) sends is
 
 -- LINES
 
 -- in a certificate of this version
 record LineIs (version : Version) (words : List (List ℕ)) (line : Line) : Type 0 where
-  words_are : line_words line ≡ words
+  words_are : line_words version line ≡ words
   proper : is_line line ≡ true
   own : is_of_version version line ≡ true
 
@@ -275,33 +272,33 @@ register-is version register (low ∷ high ∷ []) line is =
     })
 register-is version register (low ∷ high ∷ more ∷ words) line is = absurd cc
 
-descriptor-is : (version : Version) (words : List (List ℕ)) (line : Line) → descriptor_of_words words ≡ Ok line → LineIs version (codes "fd" ∷ words) line
+descriptor-is : (version : Version) (words : List (List ℕ)) (line : Line) → descriptor_of_words version words ≡ Ok line → LineIs version (codes "fd" ∷ words) line
 descriptor-is version [] line is = absurd cc
 descriptor-is version (number ∷ words) line is =
-    let parts_are = both-is Bounds_slot (up_to 15 (number_of number)) (slot_of_words words) line is in
+    let parts_are = both-is Bounds_slot (up_to 15 (number_of number)) (slot_of_words version words) line is in
     let first = up-to-is 15 parts_are.left number (omega arith) parts_are.left_is in
-    let slot = slot-is words parts_are.right parts_are.right_is in
+    let slot = slot-is version words parts_are.right parts_are.right_is in
     let few = first.1 in
     subst (LineIs version (codes "fd" ∷ number ∷ words)) parts_are.whole (record {
       words_are = λ i. codes "fd" ∷ first.0 i ∷ slot.words_are i;
       proper = and_from _ _ (and_from _ _ slot.named slot.proper) (and_from _ _ (lt-ltb parts_are.left 16 (omega (arith, few))) slot.numbered);
-      own = refl;
+      own = slot.told;
     })
 
-channel-is : (version : Version) (words : List (List ℕ)) (line : Line) → channel_of_words words ≡ Ok line → LineIs version (codes "chan" ∷ words) line
+channel-is : (version : Version) (words : List (List ℕ)) (line : Line) → channel_of_words version words ≡ Ok line → LineIs version (codes "chan" ∷ words) line
 channel-is version [] line is = absurd cc
 channel-is version (class ∷ []) line is = absurd cc
 channel-is version (class ∷ side ∷ words) line is =
     let ends = both channel_with (class_of_word class) (formed (side_of_word side)) in
-    let outer = both-is (λ (given : Option Held → Line) sends. given sends) ends (sends_of_words words) line is in
+    let outer = both-is (λ (given : Option Held → Line) sends. given sends) ends (sends_of_words version words) line is in
     let inner = both-is channel_with (class_of_word class) (formed (side_of_word side)) outer.left outer.left_is in
     let first = class-is class inner.left inner.left_is in
     let second = side-is side inner.right (formed-is (side_of_word side) inner.right inner.right_is) in
-    let sends = sends-are words outer.right outer.right_is in
+    let sends = sends-are version words outer.right outer.right_is in
     subst (LineIs version (codes "chan" ∷ class ∷ side ∷ words)) (ap (λ (given : Option Held → Line). given outer.right) inner.whole ∙ outer.whole) (record {
       words_are = λ i. codes "chan" ∷ first.word_is i ∷ second.0 i ∷ sends.words_are i;
       proper = and_from _ _ (and_from _ _ (and_from _ _ (and_from _ _ first.named second.1) sends.named) sends.proper) (and_from _ _ first.numbered sends.numbered);
-      own = refl;
+      own = sends.told;
     })
 
 other-is : (version : Version) (first : List ℕ) (words : List (List ℕ)) (line : Line) → other_line first words ≡ Ok line → LineIs version (first ∷ words) line
@@ -324,35 +321,19 @@ authority-is version has (program ∷ []) line is =
     })
 authority-is version has (program ∷ more ∷ words) line is = absurd cc
 
-record RightsAre (word : List ℕ) (rights : ℕ) : Type 0 where
-  word_is : hex_text 4 rights ≡ word
-  proper : is_ceiling rights ≡ true
-
-rights-are : (word : List ℕ) (rights : ℕ) → ceiling_from (hex_of 4 word) ≡ Ok rights → RightsAre word rights
-rights-are word rights is = go (hex_of 4 word) refl is
-  where
-    within : (n : ℕ) (proper : Bool) → hex_of 4 word ≡ Some n → is_ceiling n ≡ proper → cond proper (Ok n) (Err Syntax) ≡ Ok rights → RightsAre word rights
-    within n false read p is = absurd cc
-    within n true read p is =
-        let same : n ≡ rights = cc in subst (RightsAre word) same (record { word_is = sym (hex-text 4 word n read).0; proper = p })
-
-    go : (o : Option ℕ) → hex_of 4 word ≡ o → ceiling_from o ≡ Ok rights → RightsAre word rights
-    go None read is = absurd cc
-    go (Some n) read is = within n (is_ceiling n) read refl is
-
-ceiling-is : (version : Version) → has_authorities version ≡ true → (words : List (List ℕ)) (line : Line) → ceiling_of_words words ≡ Ok line → LineIs version (codes "ceil" ∷ words) line
-ceiling-is version has [] line is = absurd cc
-ceiling-is version has (grant ∷ []) line is = absurd cc
-ceiling-is version has (grant ∷ rights ∷ []) line is =
-    let parts_are = both-is ceiling_with (name_of_word grant) (ceiling_from (hex_of 4 rights)) line is in
+ceiling-line-is : (version : Version) → has_authorities version ≡ true → (words : List (List ℕ)) (line : Line) → ceiling_of_words version words ≡ Ok line
+    → LineIs version (codes "ceil" ∷ words) line
+ceiling-line-is version has [] line is = absurd cc
+ceiling-line-is version has (grant ∷ []) line is = absurd cc
+ceiling-line-is version has (grant ∷ plain ∷ words) line is =
+    let parts_are = both-is ceiling_with (name_of_word grant) (rights_above plain (further_above version words)) line is in
     let name = name-is grant parts_are.left parts_are.left_is in
-    let set = rights-are rights parts_are.right parts_are.right_is in
-    subst (LineIs version (codes "ceil" ∷ grant ∷ rights ∷ [])) parts_are.whole (record {
-      words_are = λ i. codes "ceil" ∷ name.0 i ∷ set.word_is i ∷ [];
+    let set = ceiling-is version plain words parts_are.right parts_are.right_is in
+    subst (LineIs version (codes "ceil" ∷ grant ∷ plain ∷ words)) parts_are.whole (record {
+      words_are = λ i. codes "ceil" ∷ name.0 i ∷ set.words_are i;
       proper = and_from _ _ (and_from _ _ name.1 set.proper) refl;
-      own = has;
+      own = and_from _ _ has set.told;
     })
-ceiling-is version has (grant ∷ rights ∷ more ∷ words) line is = absurd cc
 
 end-is : (version : Version) → has_authorities version ≡ true → (words : List (List ℕ)) (line : Line) → end_of_words words ≡ Ok line → LineIs version (codes "hold" ∷ words) line
 end-is version has [] line is = absurd cc
@@ -368,16 +349,16 @@ end-is version has (class ∷ side ∷ []) line is =
     })
 end-is version has (class ∷ side ∷ more ∷ words) line is = absurd cc
 
-later-is : (version : Version) → has_authorities version ≡ true → (first : List ℕ) (words : List (List ℕ)) (line : Line) → later_line first words ≡ Ok line → LineIs version (first ∷ words) line
+later-is : (version : Version) → has_authorities version ≡ true → (first : List ℕ) (words : List (List ℕ)) (line : Line) → later_line version first words ≡ Ok line → LineIs version (first ∷ words) line
 later-is version has first words line is = go (bytes_eq first (codes "auth")) (bytes_eq first (codes "ceil")) (bytes_eq first (codes "hold")) refl refl refl is
   where
     behind : (word : List ℕ) → bytes_eq first word ≡ true → LineIs version (word ∷ words) line → LineIs version (first ∷ words) line
     behind word same read = subst (λ w. LineIs version (w ∷ words) line) (sym (same_bytes first word same)) read
 
     go : (auth ceil hold : Bool) → bytes_eq first (codes "auth") ≡ auth → bytes_eq first (codes "ceil") ≡ ceil → bytes_eq first (codes "hold") ≡ hold
-        → cond auth (authority_of_words words) (cond ceil (ceiling_of_words words) (cond hold (end_of_words words) (other_line first words))) ≡ Ok line → LineIs version (first ∷ words) line
+        → cond auth (authority_of_words words) (cond ceil (ceiling_of_words version words) (cond hold (end_of_words words) (other_line first words))) ≡ Ok line → LineIs version (first ∷ words) line
     go true ceil hold a b c is = behind (codes "auth") a (authority-is version has words line is)
-    go false true hold a b c is = behind (codes "ceil") b (ceiling-is version has words line is)
+    go false true hold a b c is = behind (codes "ceil") b (ceiling-line-is version has words line is)
     go false false true a b c is = behind (codes "hold") c (end-is version has words line is)
     go false false false a b c is = other-is version first words line is
 
@@ -390,7 +371,7 @@ words-are version (first ∷ words) line is =
     behind word same read = subst (λ w. LineIs version (w ∷ words) line) (sym (same_bytes first word same)) read
 
     go : (at fd chan has : Bool) → bytes_eq first (codes "at") ≡ at → bytes_eq first (codes "fd") ≡ fd → bytes_eq first (codes "chan") ≡ chan → has_authorities version ≡ has
-        → cond at (block_of_words words) (cond fd (descriptor_of_words words) (cond chan (channel_of_words words) (cond has (later_line first words) (other_line first words)))) ≡ Ok line
+        → cond at (block_of_words words) (cond fd (descriptor_of_words version words) (cond chan (channel_of_words version words) (cond has (later_line version first words) (other_line first words)))) ≡ Ok line
         → LineIs version (first ∷ words) line
     go true fd chan has a b c d is = behind (codes "at") a (block-is version words line is)
     go false true chan has a b c d is = behind (codes "fd") b (descriptor-is version words line is)
@@ -400,7 +381,7 @@ words-are version (first ∷ words) line is =
 
 -- Bytes that are read as a line are its text, and the line may stand in a certificate of that version.
 pub line-text : (version : Version) (text : List ℕ) (line : Line) → line_of_text version text ≡ Ok line
-    → (line_text line ≡ text) × (is_line line ≡ true) × (is_of_version version line ≡ true)
+    → (line_text version line ≡ text) × (is_line line ≡ true) × (is_of_version version line ≡ true)
 unfolding line_of_text line_text
 line-text version text line is =
     let read = words-are version (parts 32 text) line is in

@@ -2,13 +2,13 @@
 use Rattle.std.proofs.Common.{◌≡◌, ap, arith, refl}
 use Rattle.std.specs.List.{slice_index_or}
 use Rattle.std.specs.Prelude.{[], ◌∷◌, codes, length, Ok}
-use Rattle.certificate.specs.Bounds.{Off, Version, One, Two, Three, Certificate}
+use Rattle.certificate.specs.Bounds.{Off, Version, One, Two, Three, Four, Certificate}
 use Rattle.certificate.specs.Growth.{asked_of_last, with_last, empty, open_bound, taken, distinct_behind, above_blocks, above_channels, may_bound_register, may_bound_slot, all_from, on_last}
 use Rattle.certificate.specs.Lines.{register_lines, slot_lines}
 use Rattle.std.specs.Fmt.{digits}
 use Rattle.certificate_text.specs.Texts.{certificate_text, line_text}
 use Rattle.certificate_text.specs.Readings.{certificate_of_text, line_of_text, read_behind}
-use Rattle.certificate_text.proofs.Samples.{at_main, authority_lines, channel_lines, text, three_blocks, three_points, with_authority, with_channels}
+use Rattle.certificate_text.proofs.Samples.{at_main, authority_lines, channel_lines, further_lines, text, three_blocks, three_points, with_authority, with_channels, with_further}
 
 three_points_text : certificate_text three_points ≡ three_blocks
 unfolding digits line_text register_lines slot_lines
@@ -76,6 +76,19 @@ empty_authority_read : certificate_of_text (text (codes "capcert 3" ∷ codes "a
     ≡ Ok (record (empty Three) { authorities = (record { program = codes "main"; ceilings = []; holds = [] }) ∷ [] })
 unfolding certificate_of_text read_behind line_of_text taken distinct_behind asked_of_last with_last
 empty_authority_read = refl
+
+-- version 4, with further rights and without
+with_further_text : certificate_text with_further ≡ text further_lines
+unfolding digits line_text register_lines slot_lines
+with_further_text = refl
+
+with_further_read : certificate_of_text (text further_lines) ≡ Ok with_further
+unfolding certificate_of_text read_behind line_of_text taken distinct_behind above_blocks above_channels may_bound_register may_bound_slot all_from on_last asked_of_last with_last
+with_further_read = refl
+
+nothing_of_version_4_read : certificate_of_text (text (codes "capcert 4" ∷ codes "end" ∷ [])) ≡ Ok (empty Four)
+unfolding certificate_of_text read_behind
+nothing_of_version_4_read = refl
 
 -- Certificates that differ in their version alone have different texts.
 versions_differ : (c : Certificate) → certificate_text (record c { version = One }) ≡ certificate_text (record c { version = Two }) → ⊥

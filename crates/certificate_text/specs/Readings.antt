@@ -4,7 +4,7 @@ use Rattle.std.specs.Str.{bytes_eq}
 use Rattle.texts.specs.Bytes.{space}
 use Rattle.texts.specs.Lines.{Line as TextLine, lines_of}
 use Rattle.texts.specs.Parts.{parts}
-use Rattle.certificate.specs.Bounds.{Version, One, Two, Three, Certificate}
+use Rattle.certificate.specs.Bounds.{Version, One, Two, Three, Four, Certificate}
 use Rattle.certificate.specs.Growth.{Refused, No_room, Out_of_order, empty, taken}
 use Rattle.certificate.specs.Lines.{Line}
 use Rattle.certificate_text.specs.Faults.{Fault, Syntax, Limit, Order, Faulty}
@@ -59,6 +59,7 @@ version_of_line text =
     if bytes_eq text (first_line One) then Some One
     else if bytes_eq text (first_line Two) then Some Two
     else if bytes_eq text (first_line Three) then Some Three
+    else if bytes_eq text (first_line Four) then Some Four
     else None
 
 -- The lines behind the first one, which begins there and may tell a version.

@@ -25,9 +25,10 @@ abbrev pub are_three : List (List ℕ) → Bool
 are_three [] = false
 are_three (a ∷ words) = are_two words
 
-abbrev pub are_four : List (List ℕ) → Bool
-are_four [] = false
-are_four (a ∷ words) = are_three words
+abbrev pub has_four : List (List ℕ) → Bool
+has_four [] = false
+has_four (a ∷ []) = false
+has_four (a ∷ b ∷ words) = has_two words
 
 -- words, or none where there aren't so many
 abbrev pub AreNextTwo : Option (Bor (List ℕ) × Bor (List ℕ)) → List (List ℕ) → List (List ℕ) → Type 0
@@ -46,9 +47,9 @@ abbrev pub AreThree : Option ((Bor (List ℕ) × Bor (List ℕ)) × Bor (List �
 AreThree None words = are_three words ≡ false
 AreThree (Some three) words = words ≡ three.0.0.now ∷ three.0.1.now ∷ three.1.now ∷ []
 
-abbrev pub AreFour : Option ((Bor (List ℕ) × Bor (List ℕ)) × (Bor (List ℕ) × Bor (List ℕ))) → List (List ℕ) → Type 0
-AreFour None words = are_four words ≡ false
-AreFour (Some four) words = words ≡ four.0.0.now ∷ four.0.1.now ∷ four.1.0.now ∷ four.1.1.now ∷ []
+abbrev pub AreNextFour : Option ((Bor (List ℕ) × Bor (List ℕ)) × (Bor (List ℕ) × Bor (List ℕ))) → List (List ℕ) → List (List ℕ) → Type 0
+AreNextFour None before after = has_four before ≡ false
+AreNextFour (Some four) before after = before ≡ four.0.0.now ∷ four.0.1.now ∷ four.1.0.now ∷ four.1.1.now ∷ after
 
 -- the ends of an interval, which isn't full
 abbrev pub rise_or_equal : Option ℕ → Option ℕ → Bool

@@ -1,4 +1,4 @@
-//! The text of certificates, versions 1 to 3: read and written, one spelling for each.
+//! The text of certificates, versions 1 to 4: read and written, one spelling for each.
 #![tactic(auto)]
 
 mod descriptors;

@@ -14,8 +14,8 @@ use crate::faults::LineFault;
 use crate::keywords::Keyword;
 use crate::taking::{both, is_word, next_two, next_word, one_word, three_words, two_words};
 use crate::words::{
-    LAST_INSTRUCTION, read_byte, read_ceiling_rights, read_class, read_interval, read_mode,
-    read_name, read_side,
+    LAST_INSTRUCTION, read_byte, read_ceiling_rights, read_class, read_further_above,
+    read_interval, read_mode, read_name, read_side,
 };
 use certificate::{Ceiling, Channel, End, Line, Version};
 use rights::limits::{MAX_DESCRIPTORS, REGISTERS};
@@ -63,11 +63,14 @@ fn read_register(digits: &[u8], words: Words<'_>) -> Result<Line, LineFault>
 }
 
 /// The words behind `fd`: a number of the table, and what it may be.
-fn read_descriptor(mut words: Words<'_>) -> Result<Line, LineFault>
-    ensures { result_map_both line_of fault_of result ≡ descriptor_of_words words.entry }
+fn read_descriptor(version: Version, mut words: Words<'_>) -> Result<Line, LineFault>
+    ensures { result_map_both line_of fault_of result ≡ descriptor_of_words (version_of version) words.entry }
 {
     let number = next_word(&mut words)?;
-    match both(read_byte(number, LAST_DESCRIPTOR), read_slot(words)) {
+    match both(
+        read_byte(number, LAST_DESCRIPTOR),
+        read_slot(version, words),
+    ) {
         Ok(parts) => Ok(Line::Slot {
             number: parts.0,
             slot: parts.1,
@@ -77,8 +80,8 @@ fn read_descriptor(mut words: Words<'_>) -> Result<Line, LineFault>
 }
 
 /// The words behind `chan`: a class, a side, and what it sends.
-fn read_channel(mut words: Words<'_>) -> Result<Line, LineFault>
-    ensures { result_map_both line_of fault_of result ≡ channel_of_words words.entry }
+fn read_channel(version: Version, mut words: Words<'_>) -> Result<Line, LineFault>
+    ensures { result_map_both line_of fault_of result ≡ channel_of_words (version_of version) words.entry }
 {
     let Some((class, side)) = next_two(&mut words) else {
         return Err(LineFault::Syntax);
@@ -86,7 +89,7 @@ fn read_channel(mut words: Words<'_>) -> Result<Line, LineFault>
     let Some(side) = read_side(side) else {
         return Err(LineFault::Syntax);
     };
-    match both(read_class(class), read_sends(words)) {
+    match both(read_class(class), read_sends(version, words)) {
         Ok(parts) => Ok(Line::Channel(Channel::new(parts.0, side, parts.1))),
         Err(fault) => Err(fault),
     }
@@ -122,13 +125,14 @@ fn read_authority(words: Words<'_>) -> Result<Line, LineFault>
 }
 
 /// The words behind `ceil`: a grant's name, and some rights.
-fn read_ceiling(words: Words<'_>) -> Result<Line, LineFault>
-    ensures { result_map_both line_of fault_of result ≡ ceiling_of_words words.entry }
+fn read_ceiling(version: Version, mut words: Words<'_>) -> Result<Line, LineFault>
+    ensures { result_map_both line_of fault_of result ≡ ceiling_of_words (version_of version) words.entry }
 {
-    let Some((grant, rights)) = two_words(words) else {
+    let Some((grant, plain)) = next_two(&mut words) else {
         return Err(LineFault::Syntax);
     };
-    match both(read_name(grant), read_ceiling_rights(rights)) {
+    let rights = read_ceiling_rights(plain, read_further_above(version, words));
+    match both(read_name(grant), rights) {
         Ok(parts) => Ok(Line::Ceiling(Ceiling::new(parts.0, parts.1))),
         Err(fault) => Err(fault),
     }
@@ -151,13 +155,13 @@ fn read_end(words: Words<'_>) -> Result<Line, LineFault>
 }
 
 /// A line of a version with authorities that begins with none of the words that lines of all versions begin with.
-fn read_later(first: &[u8], words: Words<'_>) -> Result<Line, LineFault>
-    ensures { result_map_both line_of fault_of result ≡ later_line first.now words.entry }
+fn read_later(version: Version, first: &[u8], words: Words<'_>) -> Result<Line, LineFault>
+    ensures { result_map_both line_of fault_of result ≡ later_line (version_of version) first.now words.entry }
 {
     if is_word(first, Keyword::Auth) {
         read_authority(words)
     } else if is_word(first, Keyword::Ceil) {
-        read_ceiling(words)
+        read_ceiling(version, words)
     } else if is_word(first, Keyword::Hold) {
         read_end(words)
     } else {
@@ -173,11 +177,11 @@ fn read_words(version: Version, mut words: Words<'_>) -> Result<Line, LineFault>
     if is_word(first, Keyword::At) {
         read_block(words)
     } else if is_word(first, Keyword::Fd) {
-        read_descriptor(words)
+        read_descriptor(version, words)
     } else if is_word(first, Keyword::Chan) {
-        read_channel(words)
+        read_channel(version, words)
     } else if version.has_authorities() {
-        read_later(first, words)
+        read_later(version, first, words)
     } else {
         read_other(first, words)
     }

@@ -87,6 +87,8 @@ fn read_version(text: &[u8]) -> Option<Version>
         Some(Version::Two)
     } else if text == b"capcert 3".as_slice() {
         Some(Version::Three)
+    } else if text == b"capcert 4".as_slice() {
+        Some(Version::Four)
     } else {
         None
     }

@@ -4,7 +4,7 @@ ghost use Rattle.std.specs.Prelude.{◌≡◌};
 ghost use Rattle.std.specs.Str.{bytes_eq};
 ghost use Rattle.certificate_text.specs.KeywordViews.{keyword_text};
 ghost use Rattle.certificate_text.specs.Views.{IsNextWord};
-ghost use Rattle.certificate_text.specs.TakingViews.{AreFour, AreNextTwo, AreThree, AreTwo, IsOne, both_parts};
+ghost use Rattle.certificate_text.specs.TakingViews.{AreNextFour, AreNextTwo, AreThree, AreTwo, IsOne, both_parts};
 
 use crate::faults::LineFault;
 use crate::keywords::Keyword;
@@ -61,12 +61,14 @@ pub(crate) fn three_words(mut words: Words<'_>) -> Option<((&[u8], &[u8]), &[u8]
     Some((pair, third))
 }
 
-/// The words, if they are four: the first two, and the others.
-pub(crate) fn four_words(mut words: Words<'_>) -> Option<((&[u8], &[u8]), (&[u8], &[u8]))>
-    ensures { AreFour result words.entry }
+/// The next four words, if they are there: the first two, and the others.
+pub(crate) fn next_four<'t>(
+    words: &mut Words<'t>,
+) -> Option<((&'t [u8], &'t [u8]), (&'t [u8], &'t [u8]))>
+    ensures { AreNextFour result words.old words.new }
 {
-    let pair = next_two(&mut words)?;
-    let others = two_words(words)?;
+    let pair = next_two(words)?;
+    let others = next_two(words)?;
     Some((pair, others))
 }
 

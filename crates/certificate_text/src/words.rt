@@ -6,22 +6,23 @@ ghost use Rattle.texts.specs.Hex.{hex_of};
 ghost use Rattle.texts.specs.Numbers.{number_of};
 ghost use Rattle.certificate.specs.Lines.{is_ceiling};
 ghost use Rattle.rights.specs.Views.{side_seen};
-ghost use Rattle.certificate.specs.Views.{class_of, interval_of, mode_of};
+ghost use Rattle.certificate.specs.Views.{class_of, interval_of, mode_of, version_of};
 ghost use Rattle.texts.specs.Views.{name_of};
 ghost use Rattle.certificate_text.specs.TakingViews.{rise_or_equal, unless_full};
 ghost use Rattle.certificate_text.specs.Views.{fault_of, fcntls_in, rights_in};
-ghost use Rattle.certificate_text.specs.Words.{ceiling_from, class_of_word, fcntls_of_words, interval_from, mode_of_word, name_of_word, point_of_program, rights_of_words, side_of_word, up_to};
+ghost use Rattle.certificate_text.specs.Words.{class_of_word, fcntls_of_words, further_above, further_of_words, interval_from, mode_of_word, name_of_word, point_of_program};
+ghost use Rattle.certificate_text.specs.Words.{rights_above, rights_from, rights_of_words, side_of_word, up_to};
 ghost use Rattle.texts.specs.Parts.{parts};
 
 use crate::faults::LineFault;
 use crate::keywords::Keyword;
-use crate::taking::{both, is_word};
+use crate::taking::{both, is_word, one_word, two_words};
 use bitflags::Flags;
-use certificate::{Class, FcntlsRange, Interval, ModeBound, Pair, RightsRange, Side};
+use certificate::{Class, FcntlsRange, Interval, ModeBound, Pair, RightsRange, Side, Version};
 use rights::limits::{MAX_INSTRUCTIONS, MAX_PAIRS};
 use rights::{Fcntls, Rights};
 use std::cmp::Ordering;
-use texts::{Name, NumberFault, compare_numbers, first_part, number_up_to, read_hex};
+use texts::{Name, NumberFault, Words, compare_numbers, first_part, number_up_to, read_hex};
 
 /// The number of the last instruction that a program may have.
 pub(crate) const LAST_INSTRUCTION: u8 = (MAX_INSTRUCTIONS - 1) as u8;
@@ -157,15 +158,47 @@ pub(crate) fn read_interval(low: &[u8], high: &[u8]) -> Result<Interval, LineFau
     }
 }
 
-/// The least and the greatest set of rights, in four digits each.
-pub(crate) fn read_rights(least: &[u8], greatest: &[u8]) -> Result<RightsRange, LineFault>
-    ensures { result_map_both rights_in fault_of result ≡ rights_of_words least.now greatest.now }
+/// A set of rights: those of the fourteen that a word names in four digits, and further ones.
+fn read_set(word: &[u8], further: u32) -> Option<Rights>
+    ensures { option_map (λ rights. rights.0) result ≡ rights_from (hex_of 4 word.now) further }
 {
-    let (Some(least), Some(greatest)) = (read_hex(least, 4), read_hex(greatest, 4)) else {
+    let plain = read_hex(word, 4)?;
+    if !Rights::plain().contains(Rights::from_bits_retain(u64::from(plain))) {
+        return None;
+    }
+    Some(Rights::of_parts(plain as u16, further))
+}
+
+/// The further rights of the least and of the greatest set, by bit from 0, in eight digits each. Before version 4 there is no word
+/// of them: the least set has none, and the greatest has all.
+pub(crate) fn read_further(version: Version, words: Words<'_>) -> Option<(u32, u32)>
+    ensures { result ≡ further_of_words (version_of version) words.entry }
+{
+    if version.tells_further() {
+        let (least, greatest) = two_words(words)?;
+        Some((read_hex(least, 8)?, read_hex(greatest, 8)?))
+    } else if words.is_done() {
+        Some((0, u32::MAX))
+    } else {
+        None
+    }
+}
+
+/// The least and the greatest set of rights: the fourteen in four digits each, and further ones.
+pub(crate) fn read_rights(
+    least: &[u8],
+    greatest: &[u8],
+    further: Option<(u32, u32)>,
+) -> Result<RightsRange, LineFault>
+    ensures { result_map_both rights_in fault_of result ≡ rights_of_words least.now greatest.now further }
+{
+    let Some(further) = further else {
         return Err(LineFault::Syntax);
     };
-    let least = Rights::from_bits_retain(least as u16);
-    let greatest = Rights::from_bits_retain(greatest as u16);
+    let (Some(least), Some(greatest)) = (read_set(least, further.0), read_set(greatest, further.1))
+    else {
+        return Err(LineFault::Syntax);
+    };
     if !greatest.contains(least) || !Rights::all().contains(greatest) {
         return Err(LineFault::Syntax);
     }
@@ -187,15 +220,30 @@ pub(crate) fn read_fcntls(least: &[u8], greatest: &[u8]) -> Result<FcntlsRange, 
     Ok(FcntlsRange::new(least, greatest))
 }
 
-/// The rights of a ceiling, in four digits; there are some.
-pub(crate) fn read_ceiling_rights(word: &[u8]) -> Result<Rights, LineFault>
-    ensures value { result_map_both (λ rights. rights.0) fault_of result ≡ ceiling_from (hex_of 4 word.now) }
+/// The further rights of a ceiling, by bit from 0, in eight digits. Before version 4 there is no word of them, and it has none.
+pub(crate) fn read_further_above(version: Version, words: Words<'_>) -> Option<u32>
+    ensures { result ≡ further_above (version_of version) words.entry }
+{
+    if version.tells_further() {
+        read_hex(one_word(words)?, 8)
+    } else if words.is_done() {
+        Some(0)
+    } else {
+        None
+    }
+}
+
+/// The rights of a ceiling: the fourteen in four digits, and further ones; there are some.
+pub(crate) fn read_ceiling_rights(word: &[u8], further: Option<u32>) -> Result<Rights, LineFault>
+    ensures value { result_map_both (λ rights. rights.0) fault_of result ≡ rights_above word.now further }
     ensures some { IfOk result (λ rights. is_ceiling rights.0 ≡ true) }
 {
-    let Some(rights) = read_hex(word, 4) else {
+    let Some(further) = further else {
         return Err(LineFault::Syntax);
     };
-    let rights = Rights::from_bits_retain(rights as u16);
+    let Some(rights) = read_set(word, further) else {
+        return Err(LineFault::Syntax);
+    };
     if !Rights::all().contains(rights) || rights.bits() == 0 {
         return Err(LineFault::Syntax);
     }

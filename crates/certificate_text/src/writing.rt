@@ -27,15 +27,20 @@ fn write_bytes<W: Out>(out: &mut W, room: &mut Room, bytes: &[u8]) -> Result<(),
     Ok(())
 }
 
-/// Writes a line, with its line feed.
+/// Writes a line of a certificate of this version, with its line feed.
 #[tactic(auto, unfolding(crate::specs::Texts::line_text))]
-fn write_line<W: Out>(out: &mut W, room: &mut Room, line: &Line) -> Result<(), Stop>
+fn write_line<W: Out>(
+    out: &mut W,
+    room: &mut Room,
+    version: Version,
+    line: &Line,
+) -> Result<(), Stop>
     requires { W.faults out.old < 2 ^ 64 - 1 }
     ensures { Gathers result (W.taken out.old) (W.taken out.new) (W.faults out.old) (W.faults out.new) room.old room.new
-        (ended_line (line_text (line_of line.now))) }
+        (ended_line (line_text (version_of version) (line_of line.now))) }
 {
     make_room(out, room)?;
-    push_line(room, line);
+    push_line(room, version, line);
     room.push_byte(b'\n');
     Ok(())
 }
@@ -44,12 +49,13 @@ fn write_line<W: Out>(out: &mut W, room: &mut Room, line: &Line) -> Result<(), S
 fn write_register<W: Out>(
     out: &mut W,
     room: &mut Room,
+    version: Version,
     register: u8,
     interval: &Interval,
 ) -> Result<(), Stop>
     requires { W.faults out.old < 2 ^ 64 - 1 }
     ensures { Gathers result (W.taken out.old) (W.taken out.new) (W.faults out.old) (W.faults out.new) room.old room.new
-        (register_text register (interval_of interval.now)) }
+        (register_text (version_of version) register (interval_of interval.now)) }
 {
     if interval.is_full() {
         return Ok(());
@@ -57,6 +63,7 @@ fn write_register<W: Out>(
     write_line(
         out,
         room,
+        version,
         &Line::Register {
             register,
             interval: *interval,
@@ -65,23 +72,34 @@ fn write_register<W: Out>(
 }
 
 /// Writes the lines of registers, the first of which has this number.
-fn write_registers<W: Out>(out: &mut W, room: &mut Room, registers: &[Interval]) -> Result<(), Stop>
+fn write_registers<W: Out>(
+    out: &mut W,
+    room: &mut Room,
+    version: Version,
+    registers: &[Interval],
+) -> Result<(), Stop>
     requires few { length registers.now ≤ 255 }
     requires faults { W.faults out.old < 2 ^ 64 - 1 }
     ensures { Gathers result (W.taken out.old) (W.taken out.new) (W.faults out.old) (W.faults out.new) room.old room.new
-        (in_order register_text 0 (map interval_of registers.now)) }
+        (in_order (register_text (version_of version)) 0 (map interval_of registers.now)) }
 {
     for (register, interval) in registers.iter().enumerate() {
-        write_register(out, room, register as u8, interval)?;
+        write_register(out, room, version, register as u8, interval)?;
     }
     Ok(())
 }
 
 /// Writes the line of a slot that isn't closed.
-fn write_slot<W: Out>(out: &mut W, room: &mut Room, number: u8, slot: &Slot) -> Result<(), Stop>
+fn write_slot<W: Out>(
+    out: &mut W,
+    room: &mut Room,
+    version: Version,
+    number: u8,
+    slot: &Slot,
+) -> Result<(), Stop>
     requires { W.faults out.old < 2 ^ 64 - 1 }
     ensures { Gathers result (W.taken out.old) (W.taken out.new) (W.faults out.old) (W.faults out.new) room.old room.new
-        (slot_text number (slot_of slot.now)) }
+        (slot_text (version_of version) number (slot_of slot.now)) }
 {
     if slot.is_closed() {
         return Ok(());
@@ -89,6 +107,7 @@ fn write_slot<W: Out>(out: &mut W, room: &mut Room, number: u8, slot: &Slot) -> 
     write_line(
         out,
         room,
+        version,
         &Line::Slot {
             number,
             slot: *slot,
@@ -97,26 +116,36 @@ fn write_slot<W: Out>(out: &mut W, room: &mut Room, number: u8, slot: &Slot) -> 
 }
 
 /// Writes the lines of slots, by their numbers.
-fn write_slots<W: Out>(out: &mut W, room: &mut Room, slots: &[Slot]) -> Result<(), Stop>
+fn write_slots<W: Out>(
+    out: &mut W,
+    room: &mut Room,
+    version: Version,
+    slots: &[Slot],
+) -> Result<(), Stop>
     requires few { length slots.now ≤ 255 }
     requires faults { W.faults out.old < 2 ^ 64 - 1 }
     ensures { Gathers result (W.taken out.old) (W.taken out.new) (W.faults out.old) (W.faults out.new) room.old room.new
-        (in_order slot_text 0 (map slot_of slots.now)) }
+        (in_order (slot_text (version_of version)) 0 (map slot_of slots.now)) }
 {
     for (number, slot) in slots.iter().enumerate() {
-        write_slot(out, room, number as u8, slot)?;
+        write_slot(out, room, version, number as u8, slot)?;
     }
     Ok(())
 }
 
 /// Writes the registers and slots of a block.
-fn write_bound<W: Out>(out: &mut W, room: &mut Room, bound: &Bound) -> Result<(), Stop>
+fn write_bound<W: Out>(
+    out: &mut W,
+    room: &mut Room,
+    version: Version,
+    bound: &Bound,
+) -> Result<(), Stop>
     requires { W.faults out.old < 2 ^ 64 - 1 }
     ensures { Gathers result (W.taken out.old) (W.taken out.new) (W.faults out.old) (W.faults out.new) room.old room.new
-        (in_order register_text 0 (bound_of bound.now).registers ++ in_order slot_text 0 (bound_of bound.now).slots) }
+        (in_order (register_text (version_of version)) 0 (bound_of bound.now).registers ++ in_order (slot_text (version_of version)) 0 (bound_of bound.now).slots) }
 {
-    write_registers(out, room, bound.registers())?;
-    write_slots(out, room, bound.slots())
+    write_registers(out, room, version, bound.registers())?;
+    write_slots(out, room, version, bound.slots())
 }
 
 /// The first line of a point's block.
@@ -131,98 +160,138 @@ fn first_line(point: &Point) -> Line
 }
 
 /// Writes the block of a point.
-fn write_block<W: Out>(out: &mut W, room: &mut Room, point: &Point) -> Result<(), Stop>
+fn write_block<W: Out>(
+    out: &mut W,
+    room: &mut Room,
+    version: Version,
+    point: &Point,
+) -> Result<(), Stop>
     requires { W.faults out.old < 2 ^ 64 - 1 }
     ensures { Gathers result (W.taken out.old) (W.taken out.new) (W.faults out.old) (W.faults out.new) room.old room.new
-        (block_text (point_of point.now)) }
+        (block_text (version_of version) (point_of point.now)) }
 {
-    write_line(out, room, &first_line(point))?;
-    write_bound(out, room, &point.bound())
+    write_line(out, room, version, &first_line(point))?;
+    write_bound(out, room, version, &point.bound())
 }
 
 /// Writes the blocks of points, one after another.
-fn write_points<W: Out>(out: &mut W, room: &mut Room, points: &[Point]) -> Result<(), Stop>
+fn write_points<W: Out>(
+    out: &mut W,
+    room: &mut Room,
+    version: Version,
+    points: &[Point],
+) -> Result<(), Stop>
     requires { W.faults out.old < 2 ^ 64 - 1 }
     ensures { Gathers result (W.taken out.old) (W.taken out.new) (W.faults out.old) (W.faults out.new) room.old room.new
-        (in_order (λ n. block_text) 0 (points_of points.now)) }
+        (in_order (λ n. block_text (version_of version)) 0 (points_of points.now)) }
 {
     for point in points {
-        write_block(out, room, point)?;
+        write_block(out, room, version, point)?;
     }
     Ok(())
 }
 
 /// Writes the line of a channel.
-fn write_channel<W: Out>(out: &mut W, room: &mut Room, channel: &Channel) -> Result<(), Stop>
+fn write_channel<W: Out>(
+    out: &mut W,
+    room: &mut Room,
+    version: Version,
+    channel: &Channel,
+) -> Result<(), Stop>
     requires { W.faults out.old < 2 ^ 64 - 1 }
     ensures { Gathers result (W.taken out.old) (W.taken out.new) (W.faults out.old) (W.faults out.new) room.old room.new
-        (channel_text (channel_of channel.now)) }
+        (channel_text (version_of version) (channel_of channel.now)) }
 {
-    write_line(out, room, &Line::Channel(*channel))
+    write_line(out, room, version, &Line::Channel(*channel))
 }
 
 /// Writes the lines of channels, one after another.
-fn write_channels<W: Out>(out: &mut W, room: &mut Room, channels: &[Channel]) -> Result<(), Stop>
+fn write_channels<W: Out>(
+    out: &mut W,
+    room: &mut Room,
+    version: Version,
+    channels: &[Channel],
+) -> Result<(), Stop>
     requires { W.faults out.old < 2 ^ 64 - 1 }
     ensures { Gathers result (W.taken out.old) (W.taken out.new) (W.faults out.old) (W.faults out.new) room.old room.new
-        (in_order (λ n. channel_text) 0 (channels_of channels.now)) }
+        (in_order (λ n. channel_text (version_of version)) 0 (channels_of channels.now)) }
 {
     for channel in channels {
-        write_channel(out, room, channel)?;
+        write_channel(out, room, version, channel)?;
     }
     Ok(())
 }
 
 /// Writes the line of a ceiling.
-fn write_ceiling<W: Out>(out: &mut W, room: &mut Room, ceiling: &Ceiling) -> Result<(), Stop>
+fn write_ceiling<W: Out>(
+    out: &mut W,
+    room: &mut Room,
+    version: Version,
+    ceiling: &Ceiling,
+) -> Result<(), Stop>
     requires { W.faults out.old < 2 ^ 64 - 1 }
     ensures { Gathers result (W.taken out.old) (W.taken out.new) (W.faults out.old) (W.faults out.new) room.old room.new
-        (ceiling_text (ceiling_of ceiling.now)) }
+        (ceiling_text (version_of version) (ceiling_of ceiling.now)) }
 {
-    write_line(out, room, &Line::Ceiling(*ceiling))
+    write_line(out, room, version, &Line::Ceiling(*ceiling))
 }
 
 /// Writes the lines of ceilings, one after another.
-fn write_ceilings<W: Out>(out: &mut W, room: &mut Room, ceilings: &[Ceiling]) -> Result<(), Stop>
+fn write_ceilings<W: Out>(
+    out: &mut W,
+    room: &mut Room,
+    version: Version,
+    ceilings: &[Ceiling],
+) -> Result<(), Stop>
     requires { W.faults out.old < 2 ^ 64 - 1 }
     ensures { Gathers result (W.taken out.old) (W.taken out.new) (W.faults out.old) (W.faults out.new) room.old room.new
-        (in_order (λ n. ceiling_text) 0 (map ceiling_of ceilings.now)) }
+        (in_order (λ n. ceiling_text (version_of version)) 0 (map ceiling_of ceilings.now)) }
 {
     for ceiling in ceilings {
-        write_ceiling(out, room, ceiling)?;
+        write_ceiling(out, room, version, ceiling)?;
     }
     Ok(())
 }
 
 /// Writes the line of an end.
-fn write_end<W: Out>(out: &mut W, room: &mut Room, held: &End) -> Result<(), Stop>
+fn write_end<W: Out>(out: &mut W, room: &mut Room, version: Version, held: &End) -> Result<(), Stop>
     requires { W.faults out.old < 2 ^ 64 - 1 }
     ensures { Gathers result (W.taken out.old) (W.taken out.new) (W.faults out.old) (W.faults out.new) room.old room.new
-        (end_text (held_end_of held.now)) }
+        (end_text (version_of version) (held_end_of held.now)) }
 {
-    write_line(out, room, &Line::Hold(*held))
+    write_line(out, room, version, &Line::Hold(*held))
 }
 
 /// Writes the lines of ends, one after another.
-fn write_ends<W: Out>(out: &mut W, room: &mut Room, holds: &[End]) -> Result<(), Stop>
+fn write_ends<W: Out>(
+    out: &mut W,
+    room: &mut Room,
+    version: Version,
+    holds: &[End],
+) -> Result<(), Stop>
     requires { W.faults out.old < 2 ^ 64 - 1 }
     ensures { Gathers result (W.taken out.old) (W.taken out.new) (W.faults out.old) (W.faults out.new) room.old room.new
-        (in_order (λ n. end_text) 0 (map held_end_of holds.now)) }
+        (in_order (λ n. end_text (version_of version)) 0 (map held_end_of holds.now)) }
 {
     for held in holds {
-        write_end(out, room, held)?;
+        write_end(out, room, version, held)?;
     }
     Ok(())
 }
 
 /// Writes the ceilings and the ends of an authority.
-fn write_holdings<W: Out>(out: &mut W, room: &mut Room, authority: &Authority) -> Result<(), Stop>
+fn write_holdings<W: Out>(
+    out: &mut W,
+    room: &mut Room,
+    version: Version,
+    authority: &Authority,
+) -> Result<(), Stop>
     requires { W.faults out.old < 2 ^ 64 - 1 }
     ensures { Gathers result (W.taken out.old) (W.taken out.new) (W.faults out.old) (W.faults out.new) room.old room.new
-        (in_order (λ n. ceiling_text) 0 (authority_of authority.now).ceilings ++ in_order (λ n. end_text) 0 (authority_of authority.now).holds) }
+        (in_order (λ n. ceiling_text (version_of version)) 0 (authority_of authority.now).ceilings ++ in_order (λ n. end_text (version_of version)) 0 (authority_of authority.now).holds) }
 {
-    write_ceilings(out, room, authority.ceilings())?;
-    write_ends(out, room, authority.holds())
+    write_ceilings(out, room, version, authority.ceilings())?;
+    write_ends(out, room, version, authority.holds())
 }
 
 /// The first line of an authority.
@@ -233,38 +302,49 @@ fn authority_line(authority: &Authority) -> Line
 }
 
 /// Writes the lines of an authority.
-fn write_authority<W: Out>(out: &mut W, room: &mut Room, authority: &Authority) -> Result<(), Stop>
+fn write_authority<W: Out>(
+    out: &mut W,
+    room: &mut Room,
+    version: Version,
+    authority: &Authority,
+) -> Result<(), Stop>
     requires { W.faults out.old < 2 ^ 64 - 1 }
     ensures { Gathers result (W.taken out.old) (W.taken out.new) (W.faults out.old) (W.faults out.new) room.old room.new
-        (authority_text (authority_of authority.now)) }
+        (authority_text (version_of version) (authority_of authority.now)) }
 {
-    write_line(out, room, &authority_line(authority))?;
-    write_holdings(out, room, authority)
+    write_line(out, room, version, &authority_line(authority))?;
+    write_holdings(out, room, version, authority)
 }
 
 /// Writes the lines of authorities, one after another.
 fn write_authorities<W: Out>(
     out: &mut W,
     room: &mut Room,
+    version: Version,
     authorities: &[Authority],
 ) -> Result<(), Stop>
     requires { W.faults out.old < 2 ^ 64 - 1 }
     ensures { Gathers result (W.taken out.old) (W.taken out.new) (W.faults out.old) (W.faults out.new) room.old room.new
-        (in_order (λ n. authority_text) 0 (authorities_of authorities.now)) }
+        (in_order (λ n. authority_text (version_of version)) 0 (authorities_of authorities.now)) }
 {
     for authority in authorities {
-        write_authority(out, room, authority)?;
+        write_authority(out, room, version, authority)?;
     }
     Ok(())
 }
 
 /// Writes the lines of authorities, and the last line behind them.
-fn write_last<W: Out>(out: &mut W, room: &mut Room, authorities: &[Authority]) -> Result<(), Stop>
+fn write_last<W: Out>(
+    out: &mut W,
+    room: &mut Room,
+    version: Version,
+    authorities: &[Authority],
+) -> Result<(), Stop>
     requires { W.faults out.old < 2 ^ 64 - 1 }
     ensures { Gathers result (W.taken out.old) (W.taken out.new) (W.faults out.old) (W.faults out.new) room.old room.new
-        (in_order (λ n. authority_text) 0 (authorities_of authorities.now) ++ ended_line end_line) }
+        (in_order (λ n. authority_text (version_of version)) 0 (authorities_of authorities.now) ++ ended_line end_line) }
 {
-    write_authorities(out, room, authorities)?;
+    write_authorities(out, room, version, authorities)?;
     write_bytes(out, room, b"end\n")
 }
 
@@ -272,34 +352,36 @@ fn write_last<W: Out>(out: &mut W, room: &mut Room, authorities: &[Authority]) -
 fn write_rest<W: Out>(
     out: &mut W,
     room: &mut Room,
+    version: Version,
     channels: &[Channel],
     authorities: &[Authority],
 ) -> Result<(), Stop>
     requires { W.faults out.old < 2 ^ 64 - 1 }
     ensures { Gathers result (W.taken out.old) (W.taken out.new) (W.faults out.old) (W.faults out.new) room.old room.new
-        (in_order (λ n. channel_text) 0 (channels_of channels.now)
-        ++ (in_order (λ n. authority_text) 0 (authorities_of authorities.now) ++ ended_line end_line)) }
+        (in_order (λ n. channel_text (version_of version)) 0 (channels_of channels.now)
+        ++ (in_order (λ n. authority_text (version_of version)) 0 (authorities_of authorities.now) ++ ended_line end_line)) }
 {
-    write_channels(out, room, channels)?;
-    write_last(out, room, authorities)
+    write_channels(out, room, version, channels)?;
+    write_last(out, room, version, authorities)
 }
 
 /// Writes the blocks of points, and what stands behind them.
 fn write_body<W: Out>(
     out: &mut W,
     room: &mut Room,
+    version: Version,
     points: &[Point],
     channels: &[Channel],
     authorities: &[Authority],
 ) -> Result<(), Stop>
     requires { W.faults out.old < 2 ^ 64 - 1 }
     ensures { Gathers result (W.taken out.old) (W.taken out.new) (W.faults out.old) (W.faults out.new) room.old room.new
-        (in_order (λ n. block_text) 0 (points_of points.now)
-        ++ (in_order (λ n. channel_text) 0 (channels_of channels.now)
-        ++ (in_order (λ n. authority_text) 0 (authorities_of authorities.now) ++ ended_line end_line))) }
+        (in_order (λ n. block_text (version_of version)) 0 (points_of points.now)
+        ++ (in_order (λ n. channel_text (version_of version)) 0 (channels_of channels.now)
+        ++ (in_order (λ n. authority_text (version_of version)) 0 (authorities_of authorities.now) ++ ended_line end_line))) }
 {
-    write_points(out, room, points)?;
-    write_rest(out, room, channels, authorities)
+    write_points(out, room, version, points)?;
+    write_rest(out, room, version, channels, authorities)
 }
 
 /// The first line of a certificate of this version, with its line feed.
@@ -310,6 +392,7 @@ fn version_line(version: Version) -> &'static [u8]
         Version::One => b"capcert 1\n",
         Version::Two => b"capcert 2\n",
         Version::Three => b"capcert 3\n",
+        Version::Four => b"capcert 4\n",
     }
 }
 
@@ -323,8 +406,9 @@ fn gather_cert<W: Out>(cert: &Cert, out: &mut W, room: &mut Room) -> Result<(), 
 {
     let (points, channels) = (cert.points(), cert.channels());
     let authorities = cert.authorities();
-    write_bytes(out, room, version_line(cert.version()))?;
-    write_body(out, room, points, channels, authorities)
+    let version = cert.version();
+    write_bytes(out, room, version_line(version))?;
+    write_body(out, room, version, points, channels, authorities)
 }
 
 /// Writes the text of a certificate of any version. `Device` is answered only after a failure of the writer, and what it

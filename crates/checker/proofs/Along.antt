@@ -1,21 +1,22 @@
 -- How a certificate grows along a program whose bounds are carried.
-use Rattle.std.proofs.Common.{◌≡◌, ◌+◌, ◌-◌, ◌<◌, ◌≤◌, ◌++◌, ◌↔◌, ℕ, suc, false, List, [], ◌∷◌, length, take, drop, refl, ap, sym, ◌∙◌, subst, arith}
+use Rattle.std.proofs.Common.{◌≡◌, ◌+◌, ◌-◌, ◌<◌, ◌≤◌, ◌++◌, ◌↔◌, ℕ, suc, false, List, [], ◌∷◌, length, take, drop, map, refl, ap, sym, ◌∙◌, subst, arith}
 use Rattle.std.specs.Result.{IsErr, IsErrAnd}
 use Rattle.std.specs.Prelude.{Option, Some, None, Result, Ok, Err, if◌then◌else◌}
 use Rattle.std.specs.List.{flat_map, slice_index_or}
 use Rattle.std.specs.Str.{bytes_eq}
-use Rattle.std.proofs.lemmas.List.{take_rest}
-use Rattle.certificate.specs.Bounds.{Bound, PointBound, Version, One, Two, Three, Certificate, has_authorities}
+use Rattle.std.proofs.lemmas.List.{map-append, take_rest}
+use Rattle.certificate.specs.Bounds.{Bound, PointBound, Version, One, Two, Three, Four, Certificate, has_authorities, tells_further}
 use Rattle.certificate.specs.declared.points.Point.{Point as PointCode}
 use Rattle.certificate.specs.declared.lines.Refusal.{Refusal}
 use Rattle.certificate.specs.declared.lines.Refusal.TheVariants.{Limit, Order, Memory}
 use Rattle.certificate.specs.Growths.{grown, grown_by, then_grown}
 use Rattle.certificate.specs.GrowthViews.{Grows}
-use Rattle.certificate.specs.Views.{points_of}
+use Rattle.certificate.specs.Told.{told_point}
+use Rattle.certificate.specs.Views.{point_of, points_of}
 use Rattle.texts.specs.Views.{name_of}
 use Rattle.certificate.specs.Growth.{IsCertificate, empty}
 use Rattle.certificate.specs.Lines.{block_lines, lines_of, rest_lines}
-use Rattle.certificate.proofs.Growths.{by_append, grown_append}
+use Rattle.certificate.proofs.Growths.{by_append, grown_append, grown_keeps}
 use Rattle.task.specs.Plans.{Plan}
 use Rattle.rules.proofs.expansions.GrownExpansions.{expansion_grown}
 use Rattle.rules.specs.Verdicts.{MeetsRules, IsFirstFound}
@@ -37,7 +38,13 @@ failed_first r stop new first rest whole is failed same = subst (λ r. Grows r n
     by_cause Order refused = same ∙ ap (then_grown rest) refused
     by_cause Memory refused = tt
 
-module _ (plan : Plan) (c : Certificate) (name : List ℕ) (carried : Option Bound) (point : ℕ) (below : point < 256) where
+-- Points that a version tells are taken one after another.
+pub told_append : (v : Version) (points more : List PointBound) (d : Certificate)
+    → grown_by (map (told_point v) (points ++ more)) d ≡ then_grown (grown_by (map (told_point v) more)) (grown_by (map (told_point v) points) d)
+told_append v points more d =
+    ap (λ points. grown_by points d) (map-append (told_point v) points more) ∙ by_append (map (told_point v) points) (map (told_point v) more) d
+
+module _ (v : Version) (plan : Plan) (c : Certificate) (name : List ℕ) (carried : Option Bound) (point : ℕ) (below : point < 256) where
   abbrev here : List PointBound
   here = with_bound name point (bound_with plan c name point carried)
 
@@ -52,44 +59,52 @@ module _ (plan : Plan) (c : Certificate) (name : List ℕ) (carried : Option Bou
       (λ k. points_along plan c name carried point (left k))
       ∙ (λ k. here ++ points_along plan c name (carried_past plan c name point carried) (next k) (256 - (point + 1)))
 
-  grown_parts : (d : Certificate) → grown_by (points_along plan c name carried point (256 - point)) d ≡ then_grown (grown_by rest) (grown_by here d)
-  grown_parts d = ap (λ points. grown_by points d) parted ∙ by_append here rest d
+  grown_parts : (d : Certificate) → grown_by (map (told_point v) (points_along plan c name carried point (256 - point))) d
+      ≡ then_grown (grown_by (map (told_point v) rest)) (grown_by (map (told_point v) here) d)
+  grown_parts d = ap (λ points. grown_by (map (told_point v) points) d) parted ∙ told_append v here rest d
 
   -- the others behind a point that is taken
-  pub along_next : (d e : Certificate) (next : Option Bound) → grown_by here d ≡ Some e → next ≡ carried_past plan c name point carried
-      → grown_by (points_along plan c name next (point + 1) (256 - (point + 1))) e ≡ grown_by (points_along plan c name carried point (256 - point)) d
+  pub along_next : (d e : Certificate) (next : Option Bound) → grown_by (map (told_point v) here) d ≡ Some e → next ≡ carried_past plan c name point carried
+      → grown_by (map (told_point v) (points_along plan c name next (point + 1) (256 - (point + 1)))) e
+      ≡ grown_by (map (told_point v) (points_along plan c name carried point (256 - point))) d
   along_next d e next took is =
-      ap (λ carried. grown_by (points_along plan c name carried (point + 1) (256 - (point + 1))) e) is ∙ sym (grown_parts d ∙ ap (then_grown (grown_by rest)) took)
+      ap (λ carried. grown_by (map (told_point v) (points_along plan c name carried (point + 1) (256 - (point + 1)))) e) is
+      ∙ sym (grown_parts d ∙ ap (then_grown (grown_by (map (told_point v) rest))) took)
 
   -- and where it isn't taken
   pub along_failed : (r : Result (Unit {0}) Refusal) (stop : Refusal) (new d : Certificate) (whole : Option Certificate) → r ≡ Err stop
-      → Grows (Err stop) new (grown_by here d) → grown_by (points_along plan c name carried point (256 - point)) d ≡ whole → Grows r new whole
+      → Grows (Err stop) new (grown_by (map (told_point v) here) d) → grown_by (map (told_point v) (points_along plan c name carried point (256 - point))) d ≡ whole
+      → Grows r new whole
   along_failed r stop new d whole is failed same =
-      failed_first r stop new (grown_by here d) (grown_by rest) whole is failed (sym same ∙ grown_parts d)
+      failed_first r stop new (grown_by (map (told_point v) here) d) (grown_by (map (told_point v) rest)) whole is failed (sym same ∙ grown_parts d)
 
 -- At a program's end nothing is left to take.
-pub along_end : (plan : Plan) (c : Certificate) (name : List ℕ) (carried : Option Bound) (point : ℕ) (d : Certificate) (whole : Option Certificate) → 256 ≤ point
-    → grown_by (points_along plan c name carried point (256 - point)) d ≡ whole → whole ≡ Some d
+pub along_end : (v : Version) (plan : Plan) (c : Certificate) (name : List ℕ) (carried : Option Bound) (point : ℕ) (d : Certificate) (whole : Option Certificate)
+    → 256 ≤ point → grown_by (map (told_point v) (points_along plan c name carried point (256 - point))) d ≡ whole → whole ≡ Some d
 unfolding points_along grown_by
-along_end plan c name carried point d whole past is =
+along_end v plan c name carried point d whole past is =
     let none : 256 - point ≡ 0 = omega (arith, past) in
-    sym is ∙ ap (λ left. grown_by (points_along plan c name carried point left) d) none
+    sym is ∙ ap (λ left. grown_by (map (told_point v) (points_along plan c name carried point left)) d) none
 
 -- Whole programs, one after another.
-module _ (plan : Plan) (c : Certificate) where
+module _ (v : Version) (plan : Plan) (c : Certificate) where
   abbrev along : List ℕ → List PointBound
   along name = points_along plan c name None 0 256
 
-  pub grows_behind : (r : Result (Unit {0}) Refusal) (new d e : Certificate) (name : List ℕ) (names : List (List ℕ)) → grown_by (along name) d ≡ Some e
-      → Grows r new (grown_by (flat_map along names) e) → Grows r new (grown_by (along name ++ flat_map along names) d)
+  -- what the points make of a certificate as the version tells them
+  abbrev told_by : List PointBound → Certificate → Option Certificate
+  told_by points d = grown_by (map (told_point v) points) d
+
+  pub grows_behind : (r : Result (Unit {0}) Refusal) (new d e : Certificate) (name : List ℕ) (names : List (List ℕ)) → told_by (along name) d ≡ Some e
+      → Grows r new (told_by (flat_map along names) e) → Grows r new (told_by (along name ++ flat_map along names) d)
   grows_behind r new d e name names took grows =
-      subst (Grows r new) (sym (by_append (along name) (flat_map along names) d ∙ ap (then_grown (grown_by (flat_map along names))) took)) grows
+      subst (Grows r new) (sym (told_append v (along name) (flat_map along names) d ∙ ap (then_grown (told_by (flat_map along names))) took)) grows
 
   -- those of the first of some points, and of the others
   pub first_behind : (points : List PointCode) (first : PointCode) (last : List ℕ) (r : Result (Unit {0}) Refusal) (new d e : Certificate) → 1 ≤ length points
-      → first ≡ slice_index_or points 0 first → bytes_eq (name_of first.program) last ≡ false → grown_by (along (name_of first.program)) d ≡ Some e
-      → Grows r new (grown_by (flat_map along (programs_behind (name_of first.program) (points_of (take (length points - 1) (drop 1 points))))) e)
-      → Grows r new (grown_by (flat_map along (programs_behind last (points_of points))) d)
+      → first ≡ slice_index_or points 0 first → bytes_eq (name_of first.program) last ≡ false → told_by (along (name_of first.program)) d ≡ Some e
+      → Grows r new (told_by (flat_map along (programs_behind (name_of first.program) (points_of (take (length points - 1) (drop 1 points))))) e)
+      → Grows r new (told_by (flat_map along (programs_behind last (points_of points))) d)
   unfolding programs_behind
   first_behind [] first last r new d e some is other took grows = absurd (omega arith)
   first_behind (p ∷ points) first last r new d e some is other took grows =
@@ -97,24 +112,41 @@ module _ (plan : Plan) (c : Certificate) where
       let own : name_of first.program ≡ name = ap (λ (p : PointCode). name_of p.program) is in
       let rest : take (length (p ∷ points) - 1) (drop 1 (p ∷ points)) ≡ points = take_rest (p ∷ points) 1 in
       let behind = programs_behind name (points_of points) in
-      let grown_all : Grows r new (grown_by (along name ++ flat_map along behind) d) =
-      grows_behind r new d e name behind (ap (λ name. grown_by (along name) d) (sym own) ∙ took)
-      (subst (Grows r new) (λ k. grown_by (flat_map along (programs_behind (own k) (points_of (rest k)))) e) grows) in
+      let grown_all : Grows r new (told_by (along name ++ flat_map along behind) d) =
+      grows_behind r new d e name behind (ap (λ name. told_by (along name) d) (sym own) ∙ took)
+      (subst (Grows r new) (λ k. told_by (flat_map along (programs_behind (own k) (points_of (rest k)))) e) grows) in
       let list : flat_map along (name ∷ behind) ≡ flat_map along (programs_behind last (points_of (p ∷ points))) =
       ap (λ b. flat_map along (if b then programs_behind last (points_of points) else name ∷ behind)) (sym (ap (λ n. bytes_eq n last) (sym own) ∙ other)) in
-      subst (λ points. Grows r new (grown_by points d)) list grown_all
+      subst (λ points. Grows r new (told_by points d)) list grown_all
 
   pub first_given : (points : List PointCode) (first : PointCode) (r : Result (Unit {0}) Refusal) (new d e : Certificate) → 1 ≤ length points
-      → first ≡ slice_index_or points 0 first → grown_by (along (name_of first.program)) d ≡ Some e
-      → Grows r new (grown_by (flat_map along (programs_behind (name_of first.program) (points_of (take (length points - 1) (drop 1 points))))) e)
-      → Grows r new (grown_by (flat_map along (programs_given (points_of points))) d)
+      → first ≡ slice_index_or points 0 first → told_by (along (name_of first.program)) d ≡ Some e
+      → Grows r new (told_by (flat_map along (programs_behind (name_of first.program) (points_of (take (length points - 1) (drop 1 points))))) e)
+      → Grows r new (told_by (flat_map along (programs_given (points_of points))) d)
   first_given [] first r new d e some is took grows = absurd (omega arith)
   first_given (p ∷ points) first r new d e some is took grows =
       let name = name_of p.program in
       let own : name_of first.program ≡ name = ap (λ (p : PointCode). name_of p.program) is in
       let rest : take (length (p ∷ points) - 1) (drop 1 (p ∷ points)) ≡ points = take_rest (p ∷ points) 1 in
-      grows_behind r new d e name (programs_behind name (points_of points)) (ap (λ name. grown_by (along name) d) (sym own) ∙ took)
-      (subst (Grows r new) (λ k. grown_by (flat_map along (programs_behind (own k) (points_of (rest k)))) e) grows)
+      grows_behind r new d e name (programs_behind name (points_of points)) (ap (λ name. told_by (along name) d) (sym own) ∙ took)
+      (subst (Grows r new) (λ k. told_by (flat_map along (programs_behind (own k) (points_of (rest k)))) e) grows)
+
+-- Points as they are given, one after another.
+pub given_next : (points : List PointCode) (first : PointCode) (r : Result (Unit {0}) Refusal) (new d e : Certificate) → 1 ≤ length points
+    → first ≡ slice_index_or points 0 first → grown (block_lines (told_point d.version (point_of first))) d ≡ Some e
+    → Grows r new (grown_by (map (told_point e.version) (points_of (take (length points - 1) (drop 1 points)))) e)
+    → Grows r new (grown_by (map (told_point d.version) (points_of points)) d)
+unfolding grown_by
+given_next [] first r new d e some is took grows = absurd (omega arith)
+given_next (p ∷ points) first r new d e some is took grows =
+    let own : point_of first ≡ point_of p = ap point_of is in
+    let kept : e.version ≡ d.version = grown_keeps (block_lines (told_point d.version (point_of first))) d e took in
+    let rest : take (length (p ∷ points) - 1) (drop 1 (p ∷ points)) ≡ points = take_rest (p ∷ points) 1 in
+    let here : grown (block_lines (told_point d.version (point_of p))) d ≡ Some e = ap (λ p. grown (block_lines (told_point d.version p)) d) (sym own) ∙ took in
+    let behind : then_grown (grown_by (map (told_point d.version) (points_of points))) (Some e)
+    ≡ grown_by (map (told_point e.version) (points_of (take (length (p ∷ points) - 1) (drop 1 (p ∷ points))))) e =
+    λ k. grown_by (map (told_point (sym kept k)) (points_of (sym rest k))) e in
+    subst (Grows r new) (sym (ap (then_grown (grown_by (map (told_point d.version) (points_of points)))) here ∙ behind)) grows
 
 then_lines : (b : PointBound) (points : List PointBound) → ((d : Certificate) → grown_by points d ≡ grown (flat_map block_lines points) d) → (o : Option Certificate)
     → then_grown (grown_by points) o ≡ then_grown (grown (flat_map block_lines points)) o
@@ -132,6 +164,7 @@ rest_stays : (version : Version) (plan : Plan) (c : Certificate) → rest_lines 
 rest_stays One plan c = refl
 rest_stays Two plan c = refl
 rest_stays Three plan c = refl
+rest_stays Four plan c = refl
 
 -- The lines of an expansion are those of its points, and then those behind the certificate's blocks.
 pub lines_grown : (plan : Plan) (c d : Certificate)
@@ -146,11 +179,19 @@ version_is : (version : Version) (plan : Plan) (c : Certificate) → c.version �
 version_is One plan c is = is
 version_is Two plan c is = refl
 version_is Three plan c is = is
+version_is Four plan c is = is
 
 pub same_authorities : (version : Version) → has_authorities (expanded_version version) ≡ has_authorities version
 same_authorities One = refl
 same_authorities Two = refl
 same_authorities Three = refl
+same_authorities Four = refl
+
+pub same_telling : (version : Version) → tells_further (expanded_version version) ≡ tells_further version
+same_telling One = refl
+same_telling Two = refl
+same_telling Three = refl
+same_telling Four = refl
 
 -- No line of an expansion is refused.
 pub lines_taken : (plan : Plan) (c start : Certificate) → IsCertificate c → start ≡ empty (expanded_version c.version)

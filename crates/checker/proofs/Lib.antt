@@ -9,6 +9,7 @@ pub mod Named
 pub mod Standing
 pub mod KnownLimits
 pub mod Along
+pub mod Retold
 pub mod OneByOne
 pub mod Apart
 pub mod FindingLaws

@@ -10,15 +10,16 @@ use Rattle.rights.proofs.Tests.{both_left, both_right}
 use Rattle.texts.specs.Names.{is_name}
 use Rattle.instruction_set.specs.Programs.{is_program}
 use Rattle.task.specs.Plans.{NamedProgram, Plan, code_in, name_in, program_name}
-use Rattle.task.specs.Limits.{is_tree, are_grants, is_program_named, are_named_apart, all_apart, are_programs, are_starts, is_plan}
+use Rattle.task.specs.Limits.{has_valid_parts, is_in_language, is_tree, are_grants, is_program_named, are_named_apart, all_apart, are_programs, are_starts, is_plan}
 use Rattle.rules.specs.Points.{instruction_at}
 
 programs_named : (plan : Plan) → is_plan plan ≡ true → list_all is_program_named plan.programs ≡ true
 programs_named plan valid =
     let before = is_tree plan.nodes && are_grants plan.nodes plan.grants in
     let programs = are_programs plan.programs in
+    let parts = both_left (has_valid_parts plan) (list_all (is_in_language plan.wide) plan.programs) valid in
     let are : programs ≡ true =
-    both_right before programs (both_left (before && programs) (are_starts plan.nodes (length plan.programs) plan.starts) valid) in
+    both_right before programs (both_left (before && programs) (are_starts plan.nodes (length plan.programs) plan.starts) parts) in
     let few = nat_le (length plan.programs) most_programs in
     let each = list_all is_program_named plan.programs in
     both_right few each (both_left (few && each) (all_apart are_named_apart plan.programs) are)

@@ -216,7 +216,7 @@ module _ (plan : Plan) (c : Certificate) (program point : ℕ) (i : Instruction)
 abbrev takes_within : Plan → Certificate → ℕ → ℕ → Instruction → Bound → Bool
 takes_within plan c program point i b =
     let a = authority_at c (program_name plan program) in
-    not (marked_at plan program) || (enters_within a i b && starts_in_authority plan a program point)
+    not (marked_at plan program) || (enters_within plan.wide a i b && starts_in_authority plan a program point)
 
 module _ (plan : Plan) (c : Certificate) (program point : ℕ) (i : Instruction) (b : Bound) where
   at_18 : takes_within plan c program point i b ≡ is_rule_kept (tests plan c program point i b) 18
@@ -289,7 +289,7 @@ module _ (plan : Plan) (c : Certificate) (program point : ℕ) where
   untested rule (inr (inr (inr (inr is)))) = subst (λ r. true ≡ is_rule_kept (tests_without plan c program point) (rule_number r)) (sym is) refl
 
   pub first_kept : point ≡ 0 → marked_at plan program ≡ true → (rule : AuthorityRule)
-      → keeps_in_authority rule plan c (authority_at c (program_name plan program)) ≡ is_rule_kept (authority_tests plan c program point) (authority_rule_number rule)
+      → keeps_in_authority rule plan.wide plan c (authority_at c (program_name plan program)) ≡ is_rule_kept (authority_tests plan c program point) (authority_rule_number rule)
   unfolding authority_tests
   first_kept first marked authorities.Ceilings = rw (first, marked) refl
   first_kept first marked authorities.Moves = rw (first, marked) refl

@@ -1,5 +1,5 @@
 -- What is found at a point of a program in the expansion of a certificate.
-use Rattle.std.proofs.Common.{◌≡◌, ◌<◌, ◌+◌, ℕ, suc, true, List, length, refl, ap, sym, ◌∙◌, subst, arith}
+use Rattle.std.proofs.Common.{◌≡◌, ◌<◌, ◌+◌, ℕ, suc, true, List, length, refl, ap, sym, ◌∙◌, arith}
 use Rattle.std.specs.Prelude.{◌&&◌, Bool, false, Option, Some, None, if◌then◌else◌, option_map}
 use Rattle.std.specs.List.{slice_get, slice_index_or}
 use Rattle.certificate.specs.Bounds.{Bound, Certificate, bound_at}

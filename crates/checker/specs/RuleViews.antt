@@ -61,8 +61,8 @@ keeps_at_slot slots.Sent plan c u = keeps_channel_bound c u u.passing
 keeps_at_slot slots.Channel plan c u = has_channel c u u.passing
 
 -- what a rule asks of an authority
-abbrev pub keeps_in_authority : AuthorityRule → Plan → Certificate → Authority → Bool
-keeps_in_authority authorities.Ceilings plan c a = keeps_ceilings plan.grants a
-keeps_in_authority authorities.Moves plan c a = keeps_moves a
-keeps_in_authority authorities.Received plan c a = keeps_received c a
-keeps_in_authority authorities.Sent plan c a = keeps_sent c a
+abbrev pub keeps_in_authority : AuthorityRule → Bool → Plan → Certificate → Authority → Bool
+keeps_in_authority authorities.Ceilings wide plan c a = keeps_ceilings wide plan.grants a
+keeps_in_authority authorities.Moves wide plan c a = keeps_moves a
+keeps_in_authority authorities.Received wide plan c a = keeps_received wide c a
+keeps_in_authority authorities.Sent wide plan c a = keeps_sent c a

@@ -11,15 +11,15 @@ ghost use Rattle.checker.specs.RuleViews.{keeps_in_authority};
 ghost use Rattle.rights.specs.Classes.{Initial};
 ghost use Rattle.rights.specs.Views.{operation_of, side_seen};
 ghost use Rattle.rights.specs.Sets.{is_within};
-ghost use Rattle.rules.specs.Authority.{authority_at, authority_in, ceiling_in, is_widest, keeps_ceiling, may_come};
-ghost use Rattle.rules.specs.Authority.{may_have_slot, may_hold, may_hold_all, may_start_all, may_start_with, stays_in};
+ghost use Rattle.rules.specs.Authority.{authority_at, authority_in, ceiling_in, is_widest, keeps_ceiling, may_come, most_in};
+ghost use Rattle.rules.specs.Authority.{may_have_slot, may_hold, may_hold_all, may_start_all, may_start_with, stays_in, unsaid};
 ghost use Rattle.rules.specs.Channels.{channel_at};
 ghost use Rattle.task.specs.Policies.{grant_lists};
 ghost use Rattle.task.specs.Views.{first_descriptor_of, grants_of, start_of};
 
 use crate::rule::AuthorityRule;
 use certificate::{Authority, Ceiling, Cert, Class, Domain, End, Held, Side, Slot, Target};
-use rights::{Op, Rights, operations_of_rights};
+use rights::{RightOperation, Rights, operations_of_rights};
 use task::{FirstDescriptor, FirstObject, Grant, Start, Task, grant_lists, node_begins};
 use texts::Name;
 use transfer::{channel_at, unknown_held};
@@ -30,6 +30,8 @@ pub struct Allowance<'a> {
     pub program: Name,
     pub ceilings: &'a [Ceiling],
     pub ends: &'a [End],
+    /// Whether its task asks for further rights: else nothing is said of them.
+    pub wide: bool,
 }
 
 /// The authority of the program of this name, the first of these, if it has one.
@@ -43,8 +45,10 @@ fn authority_among<'a>(authorities: &'a [Authority], program: &[u8]) -> Option<&
         .find(|authority| authority.program().as_bytes() == program)
 }
 
-/// What a program may hold by a certificate; nothing where it has no authority. Who asks learns that it is a certificate. (own)
-pub fn allowance_at<'a>(cert: &'a Cert, program: &Name) -> Allowance<'a>
+/// What a program of a task may hold by a certificate; nothing where it has no authority. `wide` is whether the task asks for
+/// further rights. Who asks learns that it is a certificate. (own)
+pub fn allowance_at<'a>(cert: &'a Cert, program: &Name, wide: bool) -> Allowance<'a>
+    ensures wide { result.wide ≡ wide }
     ensures allowance { allowance_of result ≡ authority_at cert.now (name_of program.now) }
     ensures valid { IsCertificate cert.now }
 {
@@ -53,11 +57,13 @@ pub fn allowance_at<'a>(cert: &'a Cert, program: &Name) -> Allowance<'a>
             program: *program,
             ceilings: &[],
             ends: &[],
+            wide,
         },
         Some(authority) => Allowance {
             program: *authority.program(),
             ceilings: authority.ceilings(),
             ends: authority.holds(),
+            wide,
         },
     }
 }
@@ -87,14 +93,31 @@ pub fn ceiling_at(cert: &Cert, program: &[u8], grant: &[u8]) -> Rights
     }
 }
 
+/// The rights of which an authority says nothing: the further ones, where the task doesn't ask for them.
+fn unsaid(wide: bool) -> Rights
+    ensures { result.0 ≡ unsaid wide }
+{
+    if wide {
+        Rights::empty()
+    } else {
+        Rights::further()
+    }
+}
+
+/// The most rights on nodes of the grant of a name; all further ones where nothing is said of them.
+fn most_in(allowance: &Allowance<'_>, grant: &[u8]) -> Rights
+    ensures { result.0 ≡ most_in allowance.now.wide (allowance_of allowance.now) grant.now }
+{
+    let said = ceiling_among(allowance.ceilings, grant);
+    said.union(unsaid(allowance.wide))
+}
+
 /// Whether a descriptor of this target with at most these rights is within.
 fn may_hold(allowance: &Allowance<'_>, target: &Target, rights: Rights) -> bool
-    ensures { result ≡ may_hold (allowance_of allowance.now) (target_of target.now) rights.0 }
+    ensures { result ≡ may_hold allowance.now.wide (allowance_of allowance.now) (target_of target.now) rights.0 }
 {
     match target {
-        Target::InGrant(name) => ceiling_among(allowance.ceilings, name.as_bytes()).contains(
-            rights,
-        ),
+        Target::InGrant(name) => most_in(allowance, name.as_bytes()).contains(rights),
         Target::AnyNode | Target::Unknown => false,
         Target::Socket(class, side) => {
             allowance
@@ -107,14 +130,14 @@ fn may_hold(allowance: &Allowance<'_>, target: &Target, rights: Rights) -> bool
 
 /// Whether all descriptors are within that this describes. (own)
 pub fn may_hold_all(allowance: &Allowance<'_>, held: &Held) -> bool
-    ensures { result ≡ may_hold_all (allowance_of allowance.now) (held_of held.now) }
+    ensures { result ≡ may_hold_all allowance.now.wide (allowance_of allowance.now) (held_of held.now) }
 {
     may_hold(allowance, &held.target(), held.rights().greatest())
 }
 
 /// Whether a slot's descriptor is within, if it may be open. (own)
 pub fn may_have_slot(allowance: &Allowance<'_>, slot: &Slot) -> bool
-    ensures { result ≡ may_have_slot (allowance_of allowance.now) (slot_of slot.now) }
+    ensures { result ≡ may_have_slot allowance.now.wide (allowance_of allowance.now) (slot_of slot.now) }
 {
     match slot {
         Slot::Closed => true,
@@ -135,16 +158,14 @@ pub(crate) fn is_initial(class: &Class, pair: u8) -> bool
 
 /// Whether a first descriptor of the task is within: a node lies in some grant whose ceiling has its rights, and an end is listed. (own)
 pub fn may_start_with(task: &Task, allowance: &Allowance<'_>, descriptor: FirstDescriptor) -> bool
-    ensures { result ≡ may_start_with task.now (allowance_of allowance.now) (first_descriptor_of descriptor) }
+    ensures { result ≡ may_start_with allowance.now.wide task.now (allowance_of allowance.now) (first_descriptor_of descriptor) }
 {
     match descriptor.object {
         FirstObject::Node { node, .. } => {
             let nodes = task.nodes();
             task.grants().iter().any(|grant| {
                 node_begins(nodes, node, &grant.path)
-                    && ceiling_among(allowance.ceilings, grant.name.as_bytes()).contains(
-                        descriptor.rights,
-                    )
+                    && most_in(allowance, grant.name.as_bytes()).contains(descriptor.rights)
             })
         }
         FirstObject::End { pair, side } => {
@@ -155,7 +176,7 @@ pub fn may_start_with(task: &Task, allowance: &Allowance<'_>, descriptor: FirstD
 
 /// Whether each first descriptor of a process is within.
 fn may_start(task: &Task, allowance: &Allowance<'_>, start: &Start) -> bool
-    ensures { result ≡ list_all (may_start_with task.now (allowance_of allowance.now)) (start_of start.now).descriptors }
+    ensures { result ≡ list_all (may_start_with allowance.now.wide task.now (allowance_of allowance.now)) (start_of start.now).descriptors }
 {
     start
         .descriptors
@@ -165,31 +186,29 @@ fn may_start(task: &Task, allowance: &Allowance<'_>, start: &Start) -> bool
 
 /// Whether the first descriptors are of each process that starts in the mode with a program.
 pub(crate) fn may_start_all(task: &Task, allowance: &Allowance<'_>, program: u8) -> bool
-    ensures { result ≡ may_start_all task.now (allowance_of allowance.now) program task.now.starts }
+    ensures { result ≡ may_start_all allowance.now.wide task.now (allowance_of allowance.now) program task.now.starts }
 {
     task.starts().iter().all(|start| {
         !(start.mode && start.program == program) || may_start(task, allowance, start)
     })
 }
 
-/// Whether the ceiling's grant lists the operation that a right is for, if the ceiling has the right.
-fn lists_if_held(grants: &[Grant], ceiling: &Ceiling, right: Rights, operation: Op) -> bool
-    ensures { result ≡ (not (is_within right.0 (ceiling_of ceiling.now).rights)
-        || grant_lists (grants_of grants.now) (ceiling_of ceiling.now).grant (operation_of operation)) }
+/// Whether the ceiling's grant lists the operation that a right is for, if the right is among these.
+fn lists_if_held(grants: &[Grant], ceiling: &Ceiling, rights: Rights, own: RightOperation) -> bool
+    ensures { result ≡ (not (is_within own.right.0 rights.0)
+        || grant_lists (grants_of grants.now) (ceiling_of ceiling.now).grant (operation_of own.operation)) }
 {
-    !ceiling.rights().contains(right) || grant_lists(grants, ceiling.grant().as_bytes(), operation)
+    !rights.contains(own.right) || grant_lists(grants, ceiling.grant().as_bytes(), own.operation)
 }
 
 /// Whether a ceiling's grant lists all that its rights are for. (rights(4))
-pub fn keeps_ceiling(grants: &[Grant], ceiling: &Ceiling) -> bool
-    ensures { result ≡ keeps_ceiling (grants_of grants.now) (ceiling_of ceiling.now) }
+pub fn keeps_ceiling(wide: bool, grants: &[Grant], ceiling: &Ceiling) -> bool
+    ensures { result ≡ keeps_ceiling wide (grants_of grants.now) (ceiling_of ceiling.now) }
 {
-    operations_of_rights().iter().all(|own| lists_if_held(
-        grants,
-        ceiling,
-        own.right,
-        own.operation,
-    ))
+    let rights = ceiling.rights().asked(wide);
+    operations_of_rights()
+        .iter()
+        .all(|own| lists_if_held(grants, ceiling, rights, *own))
 }
 
 /// Whether nothing can be moved from one ceiling's grant into another's, since they are of one grant, or one of them lacks the right. (own)
@@ -210,7 +229,7 @@ fn stays_in_all(source: &Ceiling, targets: &[Ceiling]) -> bool
 
 /// Whether what this side of a class sends is known, and is within. (own)
 pub fn may_come(cert: &Cert, allowance: &Allowance<'_>, class: &Class, side: Side) -> bool
-    ensures { result ≡ may_come (allowance_of allowance.now) (channel_at cert.now (class_of class.now) (side_seen side)) }
+    ensures { result ≡ may_come allowance.now.wide (allowance_of allowance.now) (channel_at cert.now (class_of class.now) (side_seen side)) }
 {
     match channel_at(cert, class, side) {
         None => false,
@@ -241,7 +260,7 @@ pub(crate) fn keeps_in_authority(
     cert: &Cert,
     allowance: &Allowance<'_>,
 ) -> bool
-    ensures { result ≡ keeps_in_authority rule task.now cert.now (allowance_of allowance.now) }
+    ensures { result ≡ keeps_in_authority rule allowance.now.wide task.now cert.now (allowance_of allowance.now) }
 {
     let (ceilings, ends) = (allowance.ceilings, allowance.ends);
     match rule {
@@ -249,7 +268,7 @@ pub(crate) fn keeps_in_authority(
             let grants = task.grants();
             ceilings
                 .iter()
-                .all(|ceiling| keeps_ceiling(grants, ceiling))
+                .all(|ceiling| keeps_ceiling(allowance.wide, grants, ceiling))
         }
         AuthorityRule::Moves => ceilings.iter().all(|source| stays_in_all(source, ceilings)),
         AuthorityRule::Received => {

@@ -44,6 +44,7 @@ pub(crate) struct AskedProgram<'a> {
     pub ghost few: { length code.now ≤ most_instructions },
     pub ghost known: { list_all leaves_known (code_of code.now) ≡ true },
     pub ghost marks: { marked ≡ marked_at task.now program },
+    pub ghost asks: { allowance.wide ≡ task.now.wide },
     pub ghost holds: { allowance_of allowance ≡ authority_at cert.now (program_name task.now program) },
 }
 
@@ -79,7 +80,7 @@ impl<'a> AskedProgram<'a> {
         let name = Name::read(task.program_name(program))?;
         let code = code_at(task, program);
         let marked = is_marked(programs, name.as_bytes());
-        let allowance = allowance_at(cert, &name);
+        let allowance = allowance_at(cert, &name, task.further_rights());
         Some(AskedProgram {
             task,
             cert,

@@ -32,7 +32,7 @@ pub(crate) fn bound_with(
     }
 }
 
-/// What a point that has this bound carries on to the next: in version 2, the join of the outcomes that go there, if it isn't
+/// What a point that has this bound carries on to the next: in versions 2 to 4, the join of the outcomes that go there, if it isn't
 /// named. Takes no memory.
 pub(crate) fn carried_past(
     task: &Task,

@@ -1,14 +1,15 @@
 //! The expansion of a certificate: the one in which each carried bound is written.
 
-ghost use Rattle.std.specs.Prelude.{◌≡◌, ◌↔◌, None, IfOk, option_map, true};
+ghost use Rattle.std.specs.Prelude.{◌≡◌, ◌↔◌, None, IfOk, map, option_map, true};
 ghost use Rattle.std.specs.List.{flat_map};
 ghost use Rattle.certificate.specs.Growth.{IsCertificate};
 ghost use Rattle.certificate.specs.Growths.{grown, grown_by};
 ghost use Rattle.certificate.specs.GrowthViews.{Grows};
 ghost use Rattle.certificate.specs.Lines.{lines_of, rest_lines};
+ghost use Rattle.certificate.specs.Told.{told_point};
 ghost use Rattle.certificate.specs.Views.{bound_of, points_of, version_of};
 ghost use Rattle.texts.specs.Views.{name_of};
-ghost use Rattle.certificate.specs.Bounds.{One, has_authorities};
+ghost use Rattle.certificate.specs.Bounds.{One, has_authorities, tells_further};
 ghost use Rattle.checker.specs.Verdicts.{Verdict, IsVerdict};
 ghost use Rattle.rights.specs.Limits.{most_instructions};
 ghost use Rattle.rules.specs.Expansions.{expanded_points, expanded_version, expansion, points_along, programs_behind, with_bound};
@@ -24,7 +25,7 @@ use std::alloc::Global;
 use task::Task;
 use texts::Name;
 
-/// Adds a point, if it has a bound.
+/// Adds a point, if it has a bound, as the certificate's version tells it.
 #[tactic(auto, unfolding(certificate::specs::Growths::grown_by))]
 fn push_point(
     expanded: &mut Cert,
@@ -32,7 +33,8 @@ fn push_point(
     point: u8,
     bound: Option<Bound>,
 ) -> Result<(), Refusal>
-    ensures { Grows result expanded.new (grown_by (with_bound (name_of name.now) point (option_map bound_of bound)) expanded.old) }
+    ensures { Grows result expanded.new
+        (grown_by (map (told_point expanded.old.version) (with_bound (name_of name.now) point (option_map bound_of bound))) expanded.old) }
 {
     match bound {
         None => Ok(()),
@@ -42,7 +44,8 @@ fn push_point(
 
 /// Adds the points of a program that are given a bound, or to which one is carried.
 fn push_program(expanded: &mut Cert, task: &Task, cert: &Cert, name: &Name) -> Result<(), Refusal>
-    ensures { Grows result expanded.new (grown_by (points_along task.now cert.now (name_of name.now) None 0 most_instructions) expanded.old) }
+    ensures { Grows result expanded.new
+        (grown_by (map (told_point expanded.old.version) (points_along task.now cert.now (name_of name.now) None 0 most_instructions)) expanded.old) }
 {
     let code = code_named(task, name.as_bytes());
     let mut carried = None;
@@ -56,7 +59,7 @@ fn push_program(expanded: &mut Cert, task: &Task, cert: &Cert, name: &Name) -> R
 }
 
 /// Adds the programs of these points, behind the program of this name.
-#[tactic(auto, using(certificate::proofs::Growths::by_append), unfolding(certificate::specs::Growths::grown_by, rules::specs::Expansions::programs_behind))]
+#[tactic(auto, using(crate::proofs::Along::told_append), unfolding(certificate::specs::Growths::grown_by, rules::specs::Expansions::programs_behind))]
 fn push_behind(
     expanded: &mut Cert,
     task: &Task,
@@ -65,7 +68,7 @@ fn push_behind(
     points: &[Point],
 ) -> Result<(), Refusal>
     ensures { Grows result expanded.new
-        (grown_by (flat_map (λ name. points_along task.now cert.now name None 0 most_instructions) (programs_behind (name_of last.now) (points_of points.now))) expanded.old) }
+        (grown_by (map (told_point expanded.old.version) (flat_map (λ name. points_along task.now cert.now name None 0 most_instructions) (programs_behind (name_of last.now) (points_of points.now)))) expanded.old) }
 {
     match points {
         [] => Ok(()),
@@ -80,9 +83,9 @@ fn push_behind(
 }
 
 /// Adds the points of the expansion of a certificate in which bounds are carried. Who asks learns that it is a certificate.
-#[tactic(auto, using(certificate::proofs::Growths::by_append), unfolding(certificate::specs::Growths::grown_by))]
+#[tactic(auto, using(crate::proofs::Along::told_append), unfolding(certificate::specs::Growths::grown_by))]
 fn push_programs(expanded: &mut Cert, task: &Task, cert: &Cert) -> Result<(), Refusal>
-    ensures grows { Grows result expanded.new (grown_by (expanded_points task.now cert.now) expanded.old) }
+    ensures grows { Grows result expanded.new (grown_by (map (told_point expanded.old.version) (expanded_points task.now cert.now)) expanded.old) }
     ensures valid { IsCertificate cert.now }
 {
     match cert.points() {
@@ -94,10 +97,10 @@ fn push_programs(expanded: &mut Cert, task: &Task, cert: &Cert) -> Result<(), Re
     }
 }
 
-/// Adds points as they are.
+/// Adds points as the certificate's version tells them.
 #[tactic(auto, unfolding(certificate::specs::Growths::grown_by))]
 fn push_points(expanded: &mut Cert, points: &[Point]) -> Result<(), Refusal>
-    ensures { Grows result expanded.new (grown_by (points_of points.now) expanded.old) }
+    ensures { Grows result expanded.new (grown_by (map (told_point expanded.old.version) (points_of points.now)) expanded.old) }
 {
     match points {
         [] => Ok(()),
@@ -110,18 +113,20 @@ fn push_points(expanded: &mut Cert, points: &[Point]) -> Result<(), Refusal>
 
 /// Adds the points of the expansion. Who asks learns that it is of a certificate.
 fn push_expanded(expanded: &mut Cert, task: &Task, cert: &Cert) -> Result<(), Refusal>
+    requires { tells_further expanded.old.version ≡ tells_further cert.now.version }
     ensures grows { Grows result expanded.new (grown_by (expansion task.now cert.now).points expanded.old) }
     ensures valid { IsCertificate cert.now }
 {
     match cert.version() {
         Version::One => push_points(expanded, cert.points()),
-        Version::Two | Version::Three => push_programs(expanded, task, cert),
+        Version::Two | Version::Three | Version::Four => push_programs(expanded, task, cert),
     }
 }
 
 /// Adds channels and authorities as they are.
 fn push_rest(expanded: &mut Cert, cert: &Cert) -> Result<(), Refusal>
-    requires { has_authorities expanded.old.version ≡ has_authorities cert.now.version }
+    requires authorities { has_authorities expanded.old.version ≡ has_authorities cert.now.version }
+    requires further { tells_further expanded.old.version ≡ tells_further cert.now.version }
     ensures { Grows result expanded.new (grown (rest_lines cert.now) expanded.old) }
 {
     push_channels(expanded, cert.channels())?;
@@ -148,6 +153,7 @@ fn version_of_expansion(version: Version) -> Version
     match version {
         Version::One | Version::Two => Version::One,
         Version::Three => Version::Three,
+        Version::Four => Version::Four,
     }
 }
 
@@ -158,11 +164,11 @@ pub fn is_expanded(task: &Task, cert: &Cert) -> bool
 {
     match cert.version() {
         Version::One => true,
-        Version::Two | Version::Three => false,
+        Version::Two | Version::Three | Version::Four => false,
     }
 }
 
-/// The expansion of a certificate: that of version 1, or of version 3 where it is of that, with all bounds that it gives and all
+/// The expansion of a certificate: that of version 1, or of version 3 or 4 where it is of that, with all bounds that it gives and all
 /// that are carried, and the same channels and authorities. `check` gives both the same verdict. Its one error is `Memory`.
 /// (own)
 pub fn expand(alloc: Global, task: &Task, cert: &Cert) -> Result<Cert, Memory>

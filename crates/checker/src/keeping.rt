@@ -76,7 +76,7 @@ fn starts_in_authority(at: &AskedPoint<'_>) -> bool
 
 /// Whether what a process may hold where it enters the mode at this point is within its program's authority.
 fn enters_within(at: &AskedPoint<'_>, bound: &Bound) -> bool
-    ensures { result ≡ enters_within (authority_of_program at.now.of.now) (instruction_of_point at.now) (bound_of bound.now) }
+    ensures { result ≡ enters_within at.now.of.now.task.now.wide (authority_of_program at.now.of.now) (instruction_of_point at.now) (bound_of bound.now) }
 {
     let allowance = &at.of.allowance;
     !enters_mode(at.instruction)
@@ -89,7 +89,7 @@ fn enters_within(at: &AskedPoint<'_>, bound: &Bound) -> bool
 /// Whether what a process of a marked program takes into the mode at this point, or starts with in it, is within its authority.
 fn takes_within(at: &AskedPoint<'_>, bound: &Bound) -> bool
     ensures { result ≡ (not (marked_at at.now.of.now.task.now at.now.of.now.program)
-        || (enters_within (authority_of_program at.now.of.now) (instruction_of_point at.now) (bound_of bound.now)
+        || (enters_within at.now.of.now.task.now.wide (authority_of_program at.now.of.now) (instruction_of_point at.now) (bound_of bound.now)
         && starts_there at.now)) }
 {
     !at.of.marked || (enters_within(at, bound) && starts_in_authority(at))

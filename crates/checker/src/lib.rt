@@ -1,5 +1,5 @@
 //! The checker: whether a certificate meets the rules K1 to K22 at every point of a task's programs. `check` answers, and
-//! names the first rule that is broken; `all_findings` lists all that are; `expand` writes out the bounds that a certificate of version 2 or 3 leaves to be carried.
+//! names the first rule that is broken; `all_findings` lists all that are; `expand` writes out the bounds that a certificate of versions 2 to 4 leaves to be carried.
 #![tactic(auto)]
 
 pub mod allowances;

@@ -77,7 +77,7 @@ fn names_point(instruction: &Instruction, point: usize) -> bool
 }
 
 /// Whether a point of this code is named: point 0, or one that a jump or an `else` goes to, whether or not it ever does. A
-/// certificate of version 2 or 3 bounds these, and the others get the bounds that are carried to them.
+/// certificate of versions 2 to 4 bounds these, and the others get the bounds that are carried to them.
 pub fn is_named(code: &[Instruction], point: usize) -> bool
     ensures { result ≡ is_named (code_of code.now) point }
 {
@@ -93,6 +93,7 @@ pub(crate) fn may_carry(version: Version, code: &[Instruction], point: usize) ->
 {
     match version {
         Version::One => false,
-        Version::Two | Version::Three => point < code.len() && !is_named(code, point),
+        Version::Two | Version::Three | Version::Four => point < code.len()
+            && !is_named(code, point),
     }
 }

@@ -135,7 +135,10 @@ impl<'a> UseTest for KeepsRule<'a> {
         let target = &held.target();
         match self.rule {
             SlotRule::Rights => held.rights().least().contains(need.rights),
-            SlotRule::Commands => held.fcntls().least().contains(need.commands),
+            SlotRule::Commands => {
+                held.fcntls().least().contains(need.commands)
+                    && held.rights().least().contains(need.further)
+            }
             SlotRule::Limit => {
                 held.rights().least().contains(need.kept_rights)
                     && held.fcntls().least().contains(need.kept_commands)

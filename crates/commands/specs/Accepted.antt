@@ -58,6 +58,7 @@ main_start more = record {
 
 abbrev pub alone : List Operation → List Instruction → Plan
 alone operations code = record {
+  wide = false;
   nodes = tree;
   grants = work operations ∷ log ∷ [];
   programs = unmarked (codes "main") code ∷ [];
@@ -74,6 +75,7 @@ few_rights = 0x0081
 -- `main` limits its directory and sends it over the pair to `child`, which is in the mode, opens a file beneath it and reads
 abbrev pub passing_plan : Plan
 passing_plan = record {
+  wide = false;
   nodes = tree;
   grants = work (Look ∷ Reads ∷ []) ∷ log ∷ [];
   programs =

@@ -31,6 +31,7 @@ small_start rights = record {
 
 abbrev pub small_plan : List Instruction → ℕ → Plan
 small_plan code rights = record {
+  wide = false;
   nodes = small_tree;
   grants = work_grant ∷ [];
   programs = unmarked (codes "main") code ∷ [];

@@ -6,6 +6,7 @@ pub mod Expanded
 pub mod Fails
 pub mod Judged
 pub mod ReportRows
+pub mod ReportViews
 pub mod Reports
 pub mod Searched
 pub mod Served

@@ -11,6 +11,7 @@ use Rattle.commands.specs.Examples.{work_grant}
 -- a process that only halts, with the directory of the grant as descriptor 0, and the rights `LOOKUP` and `READ` on it
 abbrev pub halting_plan : Plan
 halting_plan = record {
+  wide = false;
   nodes = small_tree;
   grants = work_grant ∷ [];
   programs = unmarked (codes "main") (Halt ∷ []) ∷ [];

@@ -111,5 +111,11 @@ pub fn example_task(alloc: Global) -> Result<Task, AllocError>
         untrusted: false,
     };
     let programs = vec![in alloc; main]?;
-    Ok(Task::new(nodes(alloc)?, grants(alloc)?, programs, starts(alloc)?))
+    Ok(Task::new(
+        nodes(alloc)?,
+        grants(alloc)?,
+        programs,
+        starts(alloc)?,
+        false,
+    ))
 }

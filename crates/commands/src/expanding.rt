@@ -11,7 +11,7 @@ use rights::{Out, Stop};
 use std::alloc::Global;
 use task::Task;
 
-/// Writes the expansion of a certificate: the certificate of version 1, or of version 3 where it is of that, with all bounds that
+/// Writes the expansion of a certificate: the certificate of version 1, or of version 3 or 4 where it is of that, with all bounds that
 /// it gives and all that it leaves to be carried, and with its channels and authorities. Its errors are `Device`, after a failure of the writer, which then has taken a beginning of
 /// that, and `Memory`, before anything is written. (own)
 pub fn write_expansion<W: Out>(

@@ -7,12 +7,13 @@ ghost use Rattle.certificate_text.specs.Pieces.{in_order};
 ghost use Rattle.certificate_text.specs.WritingViews.{Writes};
 ghost use Rattle.checker.specs.Views.{verdict_of};
 ghost use Rattle.rights.specs.Output.{Took, TookFront};
-ghost use Rattle.commands.specs.Reports.{answer_text, ceiling_lines, either_set, grant_line, greatest_in, point_text, point_lines, program_lines, report_text, rights_there, rights_text};
+ghost use Rattle.commands.specs.ReportViews.{row_seen};
+ghost use Rattle.commands.specs.Reports.{answer_text, ceiling_lines, either_set, grant_line, greatest_in, own_names, point_text, point_lines, program_lines, report_text, rights_there, rights_text};
 ghost use Rattle.rules.specs.Expansions.{expansion};
 ghost use Rattle.task.specs.Views.{grants_of, program_of};
 
 use crate::judging::write_verdict;
-use bitflags::Flags;
+use bitflags::{Flag, Flags};
 use certificate::{Bound, Cert, Slot, Target};
 use checker::{Verdict, ceiling_at, expand, is_expanded};
 use console::{write_bytes, write_pieces};
@@ -61,6 +62,13 @@ fn rights_in(slots: &[Slot], grant: &[u8]) -> Option<Rights>
     }
 }
 
+/// The rights, without their other names.
+fn named_rights() -> &'static [Flag<Rights>]
+    ensures { map row_seen result.now ≡ own_names }
+{
+    &Rights::flags()[..RIGHTS]
+}
+
 /// Writes a set of rights.
 fn write_rights<W: Out>(out: &mut W, set: Rights) -> Result<(), Stop>
     requires { W.faults out.old < 2 ^ 64 - 1 }
@@ -71,7 +79,7 @@ fn write_rights<W: Out>(out: &mut W, set: Rights) -> Result<(), Stop>
         return write_bytes(out, b"none");
     }
     let mut separator: &[u8] = b"";
-    for right in &Rights::flags()[..RIGHTS] {
+    for right in named_rights() {
         if set.contains(right.value) {
             write_pieces(out, &[separator, right.name.as_bytes()])?;
             separator = b",";
@@ -100,6 +108,7 @@ fn write_line<W: Out>(
 /// Writes the lines of a point with a bound: one for each grant in which a slot may be open there.
 fn write_bound<W: Out>(
     out: &mut W,
+    wide: bool,
     grants: &[Grant],
     program: &[u8],
     point: u32,
@@ -107,12 +116,13 @@ fn write_bound<W: Out>(
 ) -> Result<(), Stop>
     requires { W.faults out.old < 2 ^ 64 - 1 }
     ensures { Writes result (W.taken out.old) (W.taken out.new) (W.faults out.old) (W.faults out.new)
-        (in_order (λ n g. grant_line program.now point g.name (rights_there g.name (bound_of bound.now).slots)) 0 (grants_of grants.now)) }
+        (in_order (λ n g. grant_line wide program.now point g.name (rights_there g.name (bound_of bound.now).slots)) 0 (grants_of grants.now)) }
 {
     for grant in grants {
         let name = grant.name.as_bytes();
         if let Some(set) = rights_in(bound.slots(), name) {
-            write_line(out, program, Decimal::new(point).as_bytes(), name, set)?;
+            let shown = set.asked(wide);
+            write_line(out, program, Decimal::new(point).as_bytes(), name, shown)?;
         }
     }
     Ok(())
@@ -121,18 +131,19 @@ fn write_bound<W: Out>(
 /// Writes the lines of the points of a program that have a bound.
 fn write_points<W: Out>(
     out: &mut W,
+    wide: bool,
     grants: &[Grant],
     cert: &Cert,
     program: &NamedProgram,
 ) -> Result<(), Stop>
     requires { W.faults out.old < 2 ^ 64 - 1 }
     ensures { Writes result (W.taken out.old) (W.taken out.new) (W.faults out.old) (W.faults out.new)
-        (in_order (λ point i. point_lines (grants_of grants.now) (program_of program.now).name point (bound_at cert.now (program_of program.now).name point)) 0 (program_of program.now).code) }
+        (in_order (λ point i. point_lines wide (grants_of grants.now) (program_of program.now).name point (bound_at cert.now (program_of program.now).name point)) 0 (program_of program.now).code) }
 {
     let name = program.name.as_bytes();
     for (point, _) in program.program.code().iter().enumerate() {
         if let Some(bound) = cert.bound_at(name, point) {
-            write_bound(out, grants, name, point as u32, &bound)?;
+            write_bound(out, wide, grants, name, point as u32, &bound)?;
         }
     }
     Ok(())
@@ -141,19 +152,21 @@ fn write_points<W: Out>(
 /// Writes the lines of a marked program's authority: one for each grant where it may have anything.
 fn write_ceilings<W: Out>(
     out: &mut W,
+    wide: bool,
     grants: &[Grant],
     cert: &Cert,
     program: &[u8],
 ) -> Result<(), Stop>
     requires { W.faults out.old < 2 ^ 64 - 1 }
     ensures { Writes result (W.taken out.old) (W.taken out.new) (W.faults out.old) (W.faults out.new)
-        (ceiling_lines (grants_of grants.now) cert.now program.now) }
+        (ceiling_lines wide (grants_of grants.now) cert.now program.now) }
 {
     for grant in grants {
         let name = grant.name.as_bytes();
         let set = ceiling_at(cert, program, name);
         if set.bits() != 0 {
-            write_line(out, program, b"*", name, set)?;
+            let shown = set.asked(wide);
+            write_line(out, program, b"*", name, shown)?;
         }
     }
     Ok(())
@@ -162,19 +175,20 @@ fn write_ceilings<W: Out>(
 /// Writes the lines of a program.
 fn write_program<W: Out>(
     out: &mut W,
+    wide: bool,
     grants: &[Grant],
     cert: &Cert,
     program: &NamedProgram,
 ) -> Result<(), Stop>
     requires { W.faults out.old < 2 ^ 64 - 1 }
     ensures { Writes result (W.taken out.old) (W.taken out.new) (W.faults out.old) (W.faults out.new)
-        (program_lines (grants_of grants.now) cert.now (program_of program.now)) }
+        (program_lines wide (grants_of grants.now) cert.now (program_of program.now)) }
 {
-    write_points(out, grants, cert, program)?;
+    write_points(out, wide, grants, cert, program)?;
     if !program.untrusted {
         return Ok(());
     }
-    write_ceilings(out, grants, cert, program.name.as_bytes())
+    write_ceilings(out, wide, grants, cert, program.name.as_bytes())
 }
 
 /// Writes the report of a task and a certificate in which all bounds are written.
@@ -183,9 +197,10 @@ fn write_report<W: Out>(task: &Task, cert: &Cert, out: &mut W) -> Result<(), Sto
     ensures { Writes result (W.taken out.old) (W.taken out.new) (W.faults out.old) (W.faults out.new)
         (report_text task.now cert.now) }
 {
+    let wide = task.further_rights();
     let grants = task.grants();
     for program in task.programs() {
-        write_program(out, grants, cert, program)?;
+        write_program(out, wide, grants, cert, program)?;
     }
     Ok(())
 }

@@ -35,11 +35,11 @@ holding rights = Some (record {
   slots = Open (record { target = In_grant (codes "work"); least = 0; greatest = rights; least_fcntls = 0; greatest_fcntls = 0 }) ∷ Closed ∷ [];
 })
 
-goes_beyond : beyond_by (grant ∷ []) reads (holding all_rights ∷ holding all_rights ∷ []) 0 ≡ (codes "beyond-the-policy", 0 ∷ []) ∷ []
+goes_beyond : beyond_by false (grant ∷ []) reads (holding all_rights ∷ holding all_rights ∷ []) 0 ≡ (codes "beyond-the-policy", 0 ∷ []) ∷ []
 unfolding beyond_by grant_named
 goes_beyond = refl
 
-stays_within : beyond_by (grant ∷ []) reads (holding read_right ∷ holding read_right ∷ []) 0 ≡ []
+stays_within : beyond_by false (grant ∷ []) reads (holding read_right ∷ holding read_right ∷ []) 0 ≡ []
 unfolding beyond_by grant_named
 stays_within = refl
 

@@ -44,12 +44,12 @@ headed_where_any name [] = []
 headed_where_any name (point ∷ points) = (name, point ∷ points) ∷ []
 
 -- the points in the mode at which a number has rights beyond the policy
-unfoldable pub beyond_by : List Grant → List Instruction → List (Option Bound) → DescriptorNumber → List Headed
-beyond_by grants code bounds n = headed_where_any (codes "beyond-the-policy") (points_beyond grants code bounds n)
+unfoldable pub beyond_by : Bool → List Grant → List Instruction → List (Option Bound) → DescriptorNumber → List Headed
+beyond_by wide grants code bounds n = headed_where_any (codes "beyond-the-policy") (points_beyond wide grants code bounds n)
 
 unfoldable pub beyond_on : Plan → Certificate → Option NamedProgram → List Headed
 beyond_on plan c None = []
-beyond_on plan c (Some p) = flat_map (beyond_by plan.grants p.code (bounds_in c p)) numbers
+beyond_on plan c (Some p) = flat_map (beyond_by plan.wide plan.grants p.code (bounds_in c p)) numbers
 
 -- on a program of a task, by its number: with the bounds of a certificate, if there is one
 abbrev pub program_observed : Plan → Certificate → ℕ → Bool → List Headed

@@ -16,7 +16,7 @@ part_holds (test.RegisterBegins bound) = register_begins (bound_of bound.now)
 part_holds (test.SlotBegins task bound start) = slot_begins task.now (start_of start.now) (bound_of bound.now)
 part_holds (test.RegisterWithin arriving there) = register_arrives (bound_of arriving.now) (bound_of there.now)
 part_holds (test.SlotWithin arriving there) = slot_arrives (bound_of arriving.now) (bound_of there.now)
-part_holds (test.SlotAllowed allowed bound) = λ n. may_have_slot (allowance_of allowed.now) (slot (bound_of bound.now).slots n)
+part_holds (test.SlotAllowed allowed bound) = λ n. may_have_slot allowed.now.wide (allowance_of allowed.now) (slot (bound_of bound.now).slots n)
 
 -- how many such parts a bound has
 unfoldable pub part_count : PartTest → ℕ

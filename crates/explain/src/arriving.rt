@@ -4,7 +4,7 @@ ghost use Rattle.std.specs.Prelude.{None, true};
 
 use crate::breaking::{PartTest, error_fits, successes_fit};
 use crate::scenes::{BoundedPoint, Scene};
-use certificate::{Bound, Domain};
+use certificate::{Bound, Domain, ToldSlot};
 use texts::{Page, say};
 use transfer::{Outcome, OutcomeVisitor, failure, successes_pass};
 
@@ -43,7 +43,8 @@ impl<'a> OutcomeVisitor for Narrow<'a> {
         if goes_there && self.told < MOST_TOLD && !outcome.is_within(self.there) {
             self.told += 1;
             say!(&mut self.words; "; it leads to ", self.scene.place(self.program, self.point));
-            add_parts(&mut self.words, &outcome.bound_there(), self.there);
+            let wide = self.scene.task.further_rights();
+            add_parts(&mut self.words, wide, &outcome.bound_there(), self.there);
         }
         true
     }
@@ -104,7 +105,7 @@ pub(crate) fn add_unbound(page: &mut Page, scene: &Scene<'_>, from: &BoundedPoin
 }
 
 /// Adds in which parts a bound is too narrow for one that arrives.
-fn add_parts(page: &mut Page, arriving: &Bound, there: &Bound) {
+fn add_parts(page: &mut Page, wide: bool, arriving: &Bound, there: &Bound) {
     let (mode, most) = (arriving.mode(), there.mode());
     if !mode.within(&most) {
         say!(page; "; the mode arrives as ", mode, ", the bound has ", most);
@@ -117,7 +118,9 @@ fn add_parts(page: &mut Page, arriving: &Bound, there: &Bound) {
     let numbers = PartTest::SlotWithin { arriving, there }.failing(page.alloc());
     for number in &page.gathered(numbers) {
         let number = u32::from(*number);
-        let (slot, most) = (arriving.slot(number), there.slot(number));
-        say!(page; "; descriptor ", number, " arrives as ", slot, ", the bound has ", most);
+        let slot = arriving.slot(number);
+        say!(page; "; descriptor ", number, " arrives as ", ToldSlot { wide, slot });
+        let slot = there.slot(number);
+        say!(page; ", the bound has ", ToldSlot { wide, slot });
     }
 }

@@ -5,10 +5,10 @@ use crate::breaking::{
 };
 use crate::scenes::Scene;
 use crate::starting::Object;
-use certificate::{Bound, Class, Held, Side, Target};
+use certificate::{Bound, Class, Held, Side, Target, ToldHeld, ToldSlot};
 use checker::{Allowance, AuthorityRule, allowance_at, ceiling_at};
 use task::grant_named;
-use texts::{Name, Page, say};
+use texts::{Name, Page, ToldRights, say};
 use transfer::channel_at;
 
 /// Adds the ceiling of a descriptor's grant, or that it is an end that isn't listed, or that nothing can be said of it.
@@ -16,7 +16,11 @@ fn add_ceiling(page: &mut Page, scene: &Scene<'_>, allowed: &Allowance<'_>, targ
     match target {
         Target::InGrant(name) => {
             let name = name.as_bytes();
-            let most = ceiling_at(scene.cert, allowed.program.as_bytes(), name);
+            let rights = ceiling_at(scene.cert, allowed.program.as_bytes(), name);
+            let most = ToldRights {
+                wide: allowed.wide,
+                rights,
+            };
             say!(page; ", the ceiling on ", name, " has ", most)
         }
         Target::Socket(..) => say!(page; ", which isn't listed"),
@@ -26,13 +30,14 @@ fn add_ceiling(page: &mut Page, scene: &Scene<'_>, allowed: &Allowance<'_>, targ
 
 /// Adds what a process may take into the mode that its authority hasn't, where it enters the mode with this bound.
 pub(crate) fn add_taken(page: &mut Page, scene: &Scene<'_>, name: &Name, bound: &Bound) {
-    let allowed = &allowance_at(scene.cert, name);
+    let allowed = &allowance_at(scene.cert, name, scene.task.further_rights());
     let numbers = PartTest::SlotAllowed { allowed, bound }.failing(page.alloc());
     for number in &page.gathered(numbers) {
         let number = u32::from(*number);
         let slot = bound.slot(number);
         if let Some(held) = slot.held() {
-            say!(page; "; descriptor ", number, " is ", slot);
+            let wide = allowed.wide;
+            say!(page; "; descriptor ", number, " is ", ToldSlot { wide, slot });
             add_ceiling(page, scene, allowed, &held.target());
         }
     }
@@ -40,7 +45,7 @@ pub(crate) fn add_taken(page: &mut Page, scene: &Scene<'_>, name: &Name, bound: 
 
 /// Adds with what processes of a program start in the mode that its authority hasn't.
 pub(crate) fn add_started(page: &mut Page, scene: &Scene<'_>, name: &Name, program: u8) {
-    let allowed = allowance_at(scene.cert, name);
+    let allowed = allowance_at(scene.cert, name, scene.task.further_rights());
     for (process, start) in scene.task.starts().iter().enumerate() {
         if !start.mode || start.program != program {
             continue;
@@ -48,8 +53,12 @@ pub(crate) fn add_started(page: &mut Page, scene: &Scene<'_>, name: &Name, progr
         let descriptors = started_beyond(page.alloc(), scene.task, &allowed, start);
         for first in &page.gathered(descriptors) {
             let of = first.object;
+            let told = ToldRights {
+                wide: allowed.wide,
+                rights: first.rights,
+            };
             say!(page; "; process ", process, " starts in the mode with descriptor ", first.number);
-            say!(page; " of ", Object { scene: &*scene, of }, " with ", first.rights);
+            say!(page; " of ", Object { scene: &*scene, of }, " with ", told);
         }
     }
 }
@@ -59,7 +68,11 @@ fn add_ceilings(page: &mut Page, scene: &Scene<'_>, allowed: &Allowance<'_>) {
     let ceilings = unlisted_ceilings(page.alloc(), scene.task, allowed);
     for ceiling in &page.gathered(ceilings) {
         let (name, grants) = (ceiling.grant().as_bytes(), scene.task.grants());
-        say!(page; "; the ceiling on ", name, " has ", ceiling.rights());
+        let told = ToldRights {
+            wide: allowed.wide,
+            rights: ceiling.rights(),
+        };
+        say!(page; "; the ceiling on ", name, " has ", told);
         match grant_named(grants, name) {
             Some(grant) => {
                 let mut separator = ", and the grant lists ";
@@ -96,7 +109,10 @@ fn add_line(page: &mut Page, scene: &Scene<'_>, class: &Class, side: Side) -> Op
             let sent = channel.sends();
             match sent {
                 None => say!(page; " has the line none"),
-                Some(held) => say!(page; " has ", held),
+                Some(held) => {
+                    let wide = scene.task.further_rights();
+                    say!(page; " has ", ToldHeld { wide, held })
+                }
             }
             sent
         }
@@ -119,12 +135,15 @@ fn add_sent(page: &mut Page, scene: &Scene<'_>, allowed: &Allowance<'_>) {
     for end in &page.gathered(ends) {
         add_line(page, scene, &end.class(), end.side());
         say!(page; ", and has to have unknown 0000 3fff 0 3");
+        if scene.cert.version().tells_further() {
+            say!(page; " 00000000 ffffffff");
+        }
     }
 }
 
 /// Adds what one of the rules K19 to K22 compares of a program's authority.
 pub(crate) fn add_authority(page: &mut Page, scene: &Scene<'_>, name: &Name, rule: AuthorityRule) {
-    let allowed = allowance_at(scene.cert, name);
+    let allowed = allowance_at(scene.cert, name, scene.task.further_rights());
     match rule {
         AuthorityRule::Ceilings => add_ceilings(page, scene, &allowed),
         AuthorityRule::Moves => add_moves(page, &allowed),

@@ -164,7 +164,7 @@ pub(crate) fn started_beyond(
     start: &Start,
 ) -> Result<Vec<FirstDescriptor>, AllocError>
     ensures { IfOk result (λ found. found.items
-        ≡ filter (λ d. not (may_start_with task.now (allowance_of allowed.now) (first_descriptor_of d))) start.now.descriptors.items) }
+        ≡ filter (λ d. not (may_start_with allowed.now.wide task.now (allowance_of allowed.now) (first_descriptor_of d))) start.now.descriptors.items) }
 {
     start
         .descriptors
@@ -180,14 +180,14 @@ pub(crate) fn unlisted_ceilings(
     task: &Task,
     allowed: &Allowance<'_>,
 ) -> Result<Vec<Ceiling>, AllocError>
-    ensures { IfOk result (λ found. found.items ≡ filter (λ c. not (keeps_ceiling task.now.grants (ceiling_of c))) allowed.now.ceilings.now) }
+    ensures { IfOk result (λ found. found.items ≡ filter (λ c. not (keeps_ceiling allowed.now.wide task.now.grants (ceiling_of c))) allowed.now.ceilings.now) }
 {
-    let grants = task.grants();
+    let (wide, grants) = (allowed.wide, task.grants());
     allowed
         .ceilings
         .iter()
         .copied()
-        .filter(|ceiling| !keeps_ceiling(grants, ceiling))
+        .filter(|ceiling| !keeps_ceiling(wide, grants, ceiling))
         .collect(alloc)
 }
 
@@ -213,7 +213,7 @@ pub(crate) fn received_beyond(
     cert: &Cert,
     allowed: &Allowance<'_>,
 ) -> Result<Vec<End>, AllocError>
-    ensures { IfOk result (λ found. found.items ≡ filter (λ e. not (may_come (allowance_of allowed.now)
+    ensures { IfOk result (λ found. found.items ≡ filter (λ e. not (may_come allowed.now.wide (allowance_of allowed.now)
         (channel_at cert.now (held_end_of e).class (other_side (held_end_of e).side)))) allowed.now.ends.now) }
 {
     allowed

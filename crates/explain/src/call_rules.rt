@@ -5,11 +5,12 @@ ghost use Rattle.certificate.specs.Order.{sends_within};
 ghost use Rattle.certificate.specs.Views.{held_of};
 
 use crate::scenes::Scene;
-use certificate::{Bound, Domain, Held, Slot, Target};
+use certificate::{Bound, Domain, Held, Slot, Target, ToldHeld};
 use checker::uses::{SameGrant, target_lists};
 use checker::{CallRule, KeepsRule, SlotRule};
 use instruction_set::{Operand, Syscall};
-use texts::{Page, say};
+use rights::Rights;
+use texts::{Page, Say, ToldRights, say};
 use transfer::{
     Need, OpenSlot, Passed, SlotTest, Through, channel_at, demanded, failing_slots,
     failing_through, is_single, may_be_on, needed, operand_interval,
@@ -43,10 +44,12 @@ fn add_undetermined(page: &mut Page, bound: &Bound) {
 }
 
 /// Adds what a limit keeps that may not be there.
-fn add_grown_limit(page: &mut Page, held: &Held, need: &Need) {
+fn add_grown_limit(page: &mut Page, wide: bool, held: &Held, need: &Need) {
     let (rights, commands) = (held.rights().least(), held.fcntls().least());
-    if !rights.contains(need.kept_rights) {
-        return say!(page; " has ", rights, " at least; the limit keeps ", need.kept_rights);
+    let kept = need.kept_rights;
+    if !rights.contains(kept) {
+        say!(page; " has ", ToldRights { wide, rights }, " at least; the limit keeps ");
+        return ToldRights { wide, rights: kept }.say(page);
     }
     say!(page; " has the commands ", commands);
     say!(page; " at least; the limit keeps ", need.kept_commands)
@@ -99,15 +102,16 @@ fn add_sent(page: &mut Page, told: &Told<'_>, target: &Target, passed: Passed) {
     let Some(channel) = channel_at(told.scene.cert, class, *side) else {
         return;
     };
-    let line = channel.sends();
+    let (line, wide) = (channel.sends(), told.scene.task.further_rights());
     say!(page; "the channel ", *class, " ", *side);
     match line {
-        Some(most) => say!(page; " has ", most),
+        Some(held) => say!(page; " has ", ToldHeld { wide, held }),
         None => say!(page; " has none"),
     }
     let kept_back = failing_slots(page.alloc(), told.bound, sent, &LetsThrough { line: &line });
     for slot in &page.gathered(kept_back) {
-        say!(page; "; sent is ", *slot, ", ", slot.held);
+        let held = slot.held;
+        say!(page; "; sent is ", *slot, ", ", ToldHeld { wide, held });
     }
 }
 
@@ -133,22 +137,27 @@ fn add_unknown(page: &mut Page, slot: &OpenSlot, target: &Target) {
     say!(page; *slot, " may hold what lies in no grant (", *target, ")")
 }
 
+/// Adds which rights a slot surely has, and which a call needs.
+fn add_lacking(page: &mut Page, wide: bool, slot: &OpenSlot, call: &'static str, needed: Rights) {
+    let rights = slot.held.rights().least();
+    say!(page; *slot, " has ", ToldRights { wide, rights }, " at least; ");
+    say!(page; call, " needs ", ToldRights { wide, rights: needed })
+}
+
 /// Adds what a rule compares at a slot that breaks it.
 fn add_slot(page: &mut Page, told: &Told<'_>, slot: &OpenSlot, need: &Need, rule: SlotRule) {
-    let held = &slot.held;
+    let (held, wide) = (&slot.held, told.scene.task.further_rights());
     let (call, target) = (told.call.call().name(), held.target());
     match rule {
-        SlotRule::Rights => {
-            say!(page; *slot, " has ", held.rights().least(), " at least; ");
-            say!(page; call, " needs ", need.rights)
-        }
-        SlotRule::Commands => {
+        SlotRule::Rights => add_lacking(page, wide, slot, call, need.rights),
+        SlotRule::Commands if need.further == Rights::empty() => {
             say!(page; *slot, " has the commands ", held.fcntls().least(), " at least; ");
             say!(page; call, " needs ", need.commands)
         }
+        SlotRule::Commands => add_lacking(page, wide, slot, call, need.further),
         SlotRule::Limit => {
             say!(page; *slot);
-            add_grown_limit(page, held, need)
+            add_grown_limit(page, wide, held, need)
         }
         SlotRule::KnownObject | SlotRule::KnownNames => {
             add_unknown(page, slot, &target);

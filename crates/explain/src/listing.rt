@@ -17,7 +17,7 @@ use checker::allowance_at;
 use rights::Fcntls;
 use task::NamedProgram;
 use task_text::Written;
-use texts::{Name, Page, say};
+use texts::{Name, Page, ToldRights, say};
 
 /// Whether the numbers of a bound may be the same as those of the one before, if there is one.
 fn has_same_slots(bound: &Bound, before: &Option<Bound>) -> bool {
@@ -31,7 +31,7 @@ fn has_same_slots(bound: &Bound, before: &Option<Bound>) -> bool {
 }
 
 /// Adds the numbers that may be open under a bound, each with what it is of and its greatest rights.
-fn add_slots(page: &mut Page, bound: &Bound) {
+fn add_slots(page: &mut Page, wide: bool, bound: &Bound) {
     for (number, slot) in bound.slots().iter().enumerate() {
         let (held, state) = match slot {
             Slot::Closed => continue,
@@ -39,7 +39,11 @@ fn add_slots(page: &mut Page, bound: &Bound) {
             Slot::Maybe(held) => (held, " maybe "),
         };
         let (greatest, commands) = (held.rights().greatest(), held.fcntls().greatest());
-        say!(page; "    ", number, state, held.target(), " ", greatest);
+        let told = ToldRights {
+            wide,
+            rights: greatest,
+        };
+        say!(page; "    ", number, state, held.target(), " ", told);
         if !Flags::is_empty(&commands) && commands != Fcntls::all() {
             say!(page; ", commands ", commands)
         }
@@ -49,9 +53,13 @@ fn add_slots(page: &mut Page, bound: &Bound) {
 
 /// Adds what an untrusted program may hold in the mode: its authority.
 fn add_authority(page: &mut Page, scene: &Scene<'_>, name: &Name) {
-    let allowed = allowance_at(scene.cert, name);
+    let allowed = allowance_at(scene.cert, name, scene.task.further_rights());
     for ceiling in allowed.ceilings {
-        say!(page; "  in the mode: grant ", ceiling.grant().as_bytes(), " ", ceiling.rights(), "\n")
+        let told = ToldRights {
+            wide: allowed.wide,
+            rights: ceiling.rights(),
+        };
+        say!(page; "  in the mode: grant ", ceiling.grant().as_bytes(), " ", told, "\n")
     }
     for end in allowed.ends {
         say!(page; "  in the mode: sock ", end.class(), " ", end.side(), "\n")
@@ -67,30 +75,28 @@ fn add_mode(page: &mut Page, bound: &Option<Bound>, without_bound: &'static str)
 }
 
 /// Adds the numbers that may be open at a point, where they aren't those of the bound before.
-fn add_new_slots(page: &mut Page, bound: &Option<Bound>, before: &Option<Bound>) {
+fn add_new_slots(page: &mut Page, wide: bool, bound: &Option<Bound>, before: &Option<Bound>) {
     if let Some(bound) = bound {
         if !has_same_slots(bound, before) {
-            add_slots(page, bound)
+            add_slots(page, wide, bound)
         }
     }
 }
 
-/// Adds a point of a program with its bound, if it has one.
+/// Adds a point of a program with its bound, if it has one, and the lines of the numbers that may be open there.
 fn add_point(
     page: &mut Page,
     written: Written<'_>,
     point: u8,
     bound: &Option<Bound>,
-    before: &Option<Bound>,
     without_bound: &'static str,
+    numbers: &Page,
 )
     ensures { AddsSome (TellsPoint point) page.old page.new }
 {
     let mut mode = Page::new(page.alloc());
     add_mode(&mut mode, bound, without_bound);
-    let mut numbers = Page::new(page.alloc());
-    add_new_slots(&mut numbers, bound, before);
-    say!(page; "  ", point, " line ", written.line, &mode, ": ", written.text, "\n", &numbers)
+    say!(page; "  ", point, " line ", written.line, &mode, ": ", written.text, "\n", numbers)
 }
 
 /// Adds the points of a program. The numbers of a table are told where they aren't those of the point before.
@@ -103,7 +109,9 @@ fn add_points(page: &mut Page, scene: &Scene<'_>, program: u8, without_bound: &'
         let bound = scene.cert.bound_at(name, point);
         let point = point as u8;
         let written = scene.written(program, point);
-        add_point(page, written, point, &bound, &before, without_bound);
+        let mut numbers = Page::new(page.alloc());
+        add_new_slots(&mut numbers, scene.task.further_rights(), &bound, &before);
+        add_point(page, written, point, &bound, without_bound, &numbers);
         if bound.is_some() {
             before = bound;
         }

@@ -163,16 +163,17 @@ fn add_rights(
 fn add_beyond(
     alloc: Global,
     list: &mut Vec<Observation>,
+    wide: bool,
     grants: &[Grant],
     code: &[Instruction],
     bounds: &[Option<Bound>],
     number: u32,
 ) -> Result<(), AllocError>
     ensures { OnOk result (AddsObserved list.old.items list.new.items
-        (beyond_by (grants_of grants.now) (code_of code.now) (bounds_of bounds.now) number)) }
+        (beyond_by wide (grants_of grants.now) (code_of code.now) (bounds_of bounds.now) number)) }
 {
-    let points = points_beyond(alloc, grants, code, bounds, number)?;
-    let rights = beyond_at_all(grants, code, bounds, number, &points);
+    let points = points_beyond(alloc, wide, grants, code, bounds, number)?;
+    let rights = beyond_at_all(wide, grants, code, bounds, number, &points);
     add_rights(alloc, list, number, rights, points)
 }
 
@@ -180,15 +181,16 @@ fn add_beyond(
 fn add_all_beyond(
     alloc: Global,
     list: &mut Vec<Observation>,
+    wide: bool,
     grants: &[Grant],
     code: &[Instruction],
     bounds: &[Option<Bound>],
 ) -> Result<(), AllocError>
     ensures { OnOk result (AddsObserved list.old.items list.new.items
-        (flat_map (beyond_by (grants_of grants.now) (code_of code.now) (bounds_of bounds.now)) numbers)) }
+        (flat_map (beyond_by wide (grants_of grants.now) (code_of code.now) (bounds_of bounds.now)) numbers)) }
 {
     for number in 0..MAX_DESCRIPTORS as u32 {
-        add_beyond(alloc, list, grants, code, bounds, number)?;
+        add_beyond(alloc, list, wide, grants, code, bounds, number)?;
     }
     Ok(())
 }
@@ -205,8 +207,8 @@ fn add_beyond_of(
         (beyond_on scene.now.task.now scene.now.cert.now (Some (program_of named.now)))) }
 {
     let bounds = bounds_on(alloc, scene.cert, named)?;
-    let grants = scene.task.grants();
-    add_all_beyond(alloc, list, grants, named.program.code(), &bounds)
+    let (wide, grants) = (scene.task.further_rights(), scene.task.grants());
+    add_all_beyond(alloc, list, wide, grants, named.program.code(), &bounds)
 }
 
 /// Adds that of a program of the task, by its number, if there is a certificate.

@@ -17,9 +17,9 @@ use task::is_marked;
 use texts::{Name, Page, say};
 use transfer::{Site, enters_mode};
 
-/// What a rule asks, in a sentence. (own)
-pub fn rule_words(rule: Rule) -> &'static str
-    ensures { result.now ≡ rule_words rule }
+/// What a rule asks, in a sentence, of a task that asks for further rights or of another. (own)
+pub fn rule_words(wide: bool, rule: Rule) -> &'static str
+    ensures { result.now ≡ rule_words wide rule }
 {
     match rule {
         Rule::StartsWithin => "the bound of point 0 is too narrow for how a process starts",
@@ -29,7 +29,7 @@ pub fn rule_words(rule: Rule) -> &'static str
             CallRule::OneNumber => "a call that changes a slot names it by one number",
             CallRule::FreeNumbers => "the free numbers that a call takes are determined",
             CallRule::NoGlobalPath => "in the mode no call reaches a global path",
-            CallRule::OfSlot(rule) => general_of_slot(rule),
+            CallRule::OfSlot(rule) => general_of_slot(wide, rule),
         },
         Rule::LeadsToBounds => "a point that is reached has a bound",
         Rule::BoundsOutside => {
@@ -48,11 +48,13 @@ pub fn rule_words(rule: Rule) -> &'static str
 }
 
 /// What a rule on each slot that a call goes through asks.
-fn general_of_slot(rule: SlotRule) -> &'static str
-    ensures { result.now ≡ slot_rule_words rule }
+fn general_of_slot(wide: bool, rule: SlotRule) -> &'static str
+    ensures { result.now ≡ slot_rule_words wide rule }
 {
     match rule {
         SlotRule::Rights => "each right that a call needs is surely held",
+        SlotRule::Commands if wide =>
+            "each command or further right that a call needs is surely held",
         SlotRule::Commands => "each command that a call needs is surely held",
         SlotRule::Limit => "a limit keeps what is surely held",
         SlotRule::KnownObject => "in the mode a call works on what is in a grant or a socket",
@@ -145,12 +147,12 @@ fn add_detail(page: &mut Page, scene: &Scene<'_>, found: BrokenRule) {
 
 /// What a rule that is broken at a point asks, and what it compares there, in one line. (own)
 pub fn finding_words(alloc: Global, scene: &Scene<'_>, found: BrokenRule) -> Page
-    ensures { result.is_short ≡ false → BeginsWithRule found.rule result.bytes.items }
+    ensures { result.is_short ≡ false → BeginsWithRule scene.now.task.now.wide found.rule result.bytes.items }
 {
     let mut detail = Page::new(alloc);
     add_detail(&mut detail, scene, found);
     let mut sentence = Page::new(alloc);
-    say!(&mut sentence; rule_words(found.rule));
+    say!(&mut sentence; rule_words(scene.task.further_rights(), found.rule));
     if let Some(compared) = detail.as_bytes().strip_prefix(b"; ".as_slice()) {
         say!(&mut sentence; ": ", compared);
     }

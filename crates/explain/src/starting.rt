@@ -4,10 +4,10 @@ ghost use Rattle.std.specs.Prelude.{None};
 
 use crate::breaking::PartTest;
 use crate::scenes::Scene;
-use certificate::Bound;
+use certificate::{Bound, ToldSlot};
 use checker::starts::{mode_describes, with_number};
 use task::{FirstObject, Start, node_text};
-use texts::{Page, Say, say};
+use texts::{Page, Say, ToldRights, say};
 
 /// What a first descriptor of a task is of.
 #[derive(Clone, Copy)]
@@ -41,7 +41,7 @@ pub(crate) fn add_start(page: &mut Page, scene: &Scene<'_>, bound: &Bound, start
         let most = bound.interval(*register);
         say!(page; "; r", *register, " starts as 0, the bound has ", most);
     }
-    let task = scene.task;
+    let (task, wide) = (scene.task, scene.task.further_rights());
     let numbers = PartTest::SlotBegins { task, bound, start }.failing(page.alloc());
     for number in &page.gathered(numbers) {
         say!(page; "; descriptor ", *number, " starts ");
@@ -49,9 +49,14 @@ pub(crate) fn add_start(page: &mut Page, scene: &Scene<'_>, bound: &Bound, start
             None => say!(page; "closed"),
             Some(first) => {
                 let of = first.object;
-                say!(page; "as ", Object { scene: &*scene, of }, " with ", first.rights)
+                let told = ToldRights {
+                    wide,
+                    rights: first.rights,
+                };
+                say!(page; "as ", Object { scene: &*scene, of }, " with ", told)
             }
         }
-        say!(page; ", the bound has ", bound.slot(u32::from(*number)));
+        let slot = bound.slot(u32::from(*number));
+        say!(page; ", the bound has ", ToldSlot { wide, slot });
     }
 }

@@ -2,18 +2,19 @@
 use Rattle.std.proofs.Common.{◌≡◌, Bool, true, false, List, [], ◌∷◌, map, refl, ap, subst, ◌∙◌}
 use Rattle.std.specs.Prelude.{Option, Some, None, option_map, IfSome, if◌then◌else◌}
 use Rattle.std.specs.List.{list_any, slice_get}
+use Rattle.std.proofs.lemmas.Bool.{and_parts}
 use Rattle.rights.specs.Errors.{Cause, CapMode, BadDescriptor, MissingRight, Kind, Escape, Path, Access, Full, Refused}
 use Rattle.process.specs.State.{ProcessState}
 use Rattle.kernel.specs.World.{World, Choice, IsFresh}
 use Rattle.kernel.specs.Answers.{Effect, AreEvents}
-use Rattle.kernel.specs.Hostile.{Own, Does, about, step_as}
+use Rattle.kernel.specs.Hostile.{Act, Own, Does, IsSpoken, about, step_as}
 use Rattle.kernel.specs.Steps.{LineResult, No_call, Halted, Value, Failed, Waiting, Walks_on, Ended, Acted, Programs, step}
 use Rattle.kernel.specs.WellFormed.{ArePrograms, IsWellFormed}
 use Rattle.kernel.proofs.Hostile.{about_well_formed, files_about}
 use Rattle.kernel.proofs.Keeping.{next_formed}
 use Rattle.syscalls.specs.Shows.{shown}
 use Rattle.task.specs.Begins.{first_world}
-use Rattle.task.specs.Confined.{Confined, IsTrusted}
+use Rattle.task.specs.Confined.{AreSpoken, Confined, IsTrusted}
 use Rattle.task.specs.Limits.{is_plan}
 use Rattle.task.specs.Plans.{Grant, Plan, programs_of_plan}
 use Rattle.task.specs.Sandboxed.{AreAllowed, IsInMode, IsOtherCause, IsUnrefused, Sandboxed}
@@ -21,7 +22,7 @@ use Rattle.task.proofs.Allowances.{allowed_is_tested}
 use Rattle.task.proofs.FirstWorlds.{first_well_formed}
 use Rattle.simulator.specs.Lines.{shown_step}
 use Rattle.explore.specs.Breaches.{Breach, Outside, allows_shown, breach_in, either_breach, outside, refusal, refusal_for}
-use Rattle.explore.specs.Broken.{BreachesRefute, Breaks, EndsWith, IsRefuted, Move, are_own, broken_at, events_in}
+use Rattle.explore.specs.Broken.{BreachesRefute, Breaks, BreaksIf, EndsWith, IsRefuted, Move, are_all_spoken, are_own, broken_at, events_in, is_spoken_act}
 use Rattle.explore.specs.BreachViews.{breach_of}
 use Rattle.explore.specs.declared.breaches.Breach.{Breach as BreachCode}
 use Rattle.explore.proofs.Shown.{allowed-shown}
@@ -100,14 +101,32 @@ module _ (programs : Programs) (grants : List Grant) (valid : ArePrograms progra
       (nothing-broken grants (slice_get w.processes e.process) (step_as programs w e act choice).acted here.0.allowed here.0.unrefused)
       (ends.1 choice fresh) here.1
 
-pub breaches_refute : BreachesRefute
-breaches_refute plan moves breach valid bytes breaks =
+-- what is done at each move is of the language
+act-spoken : (wide : Bool) (act : Act) → is_spoken_act wide act ≡ true → IsSpoken wide act
+act-spoken wide Own is = tt
+act-spoken wide (Does deed) is = is
+
+all-spoken : (wide : Bool) (moves : List Move) → are_all_spoken wide moves ≡ true → AreSpoken wide moves
+all-spoken wide [] is = tt
+all-spoken wide ((e, act) ∷ moves) is =
+    let parts = and_parts (is_spoken_act wide act) (are_all_spoken wide moves) is in (act-spoken wide act parts.0, all-spoken wide moves parts.1)
+
+-- moves that break something are of the task's language
+refuted : (plan : Plan) (moves : List Move) (breach : Breach) (all : Bool) → are_all_spoken plan.wide moves ≡ all → is_plan plan ≡ true →
+    AreEvents (events_in moves) → BreaksIf all plan moves (Some breach) → IsRefuted plan moves
+refuted plan moves breach false is valid bytes breaks = absurd cc
+refuted plan moves breach true is valid bytes breaks =
     let formed = first_well_formed plan valid in
     record {
-      confinement = λ confined. not-confined (programs_of_plan plan) plan.grants formed.0 breach (first_world plan) None moves formed.1.formed bytes refl breaks (confined moves);
+      confinement = λ confined.
+          not-confined (programs_of_plan plan) plan.grants formed.0 breach (first_world plan) None moves formed.1.formed bytes refl breaks
+          (confined moves (all-spoken plan.wide moves is));
       sandbox = λ own sandboxed.
           not-sandboxed (programs_of_plan plan) plan.grants formed.0 breach (first_world plan) None moves own formed.1.formed bytes refl breaks (sandboxed (events_in moves) bytes);
     }
+
+pub breaches_refute : BreachesRefute
+breaches_refute plan moves breach valid bytes breaks = refuted plan moves breach (are_all_spoken plan.wide moves) refl valid bytes breaks
 
 -- what a run breaks, if it breaks something, refutes the task
 pub refuted-if : (plan : Plan) (moves : List Move) (found : Option BreachCode) → is_plan plan ≡ true → AreEvents (events_in moves) →

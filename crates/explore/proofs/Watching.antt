@@ -19,7 +19,7 @@ use Rattle.task.proofs.FirstWorlds.{first_well_formed}
 use Rattle.simulator.specs.Lines.{Line, line_at, shown_step}
 use Rattle.simulator.specs.Steps.{StepsMachineAs}
 use Rattle.explore.specs.Breaches.{Breach, breach_in}
-use Rattle.explore.specs.Broken.{Breaks, EndsWith, Move, broken_at}
+use Rattle.explore.specs.Broken.{Breaks, BreaksIf, EndsWith, Move, are_all_spoken, broken_at}
 
 -- What ends so from each world that differs from this one in numbers alone ends so from the first world on.
 abbrev pub Leads : Plan → List Move → World → Option Breach → List Move → Type 0
@@ -28,8 +28,10 @@ Leads plan moves w before left =
     → ((v : World) → IsWellFormed (programs_of_plan plan) v → DiffersInNumbers v w → EndsWith (programs_of_plan plan) plan.grants v before left last)
     → Breaks plan moves last
 
-pub leads-start : (plan : Plan) (moves : List Move) (w : World) → is_plan plan ≡ true → DiffersInNumbers (first_world plan) w → Leads plan moves w None moves
-leads-start plan moves w valid differs last ends = ends (first_world plan) (first_well_formed plan valid).1.formed differs
+pub leads-start : (plan : Plan) (moves : List Move) (w : World) → are_all_spoken plan.wide moves ≡ true → is_plan plan ≡ true →
+    DiffersInNumbers (first_world plan) w → Leads plan moves w None moves
+leads-start plan moves w spoken valid differs last ends =
+    subst (λ all. BreaksIf all plan moves last) (sym spoken) (ends (first_world plan) (first_well_formed plan valid).1.formed differs)
 
 -- what a step breaks is the same in worlds that differ in numbers alone
 same-broken : (plan : Plan) (w v : World) (e : Event) (act : Act) (line : Line) (j k : Choice) → DiffersInNumbers v w →

@@ -2,6 +2,7 @@
 use Rattle.std.specs.Prelude.{◌≡◌, ◌<◌, ℕ, Bool, true, false, List, [], ◌∷◌, length, map, Option, Some, None}
 use Rattle.std.specs.List.{list_all, remove, slice_get}
 use Rattle.std.specs.Option.{option_map}
+use Rattle.instruction_set.specs.Languages.{is_spoken}
 use Rattle.kernel.specs.World.{World, Choice, IsFresh}
 use Rattle.kernel.specs.Answers.{Event, AreEvents}
 use Rattle.kernel.specs.Hostile.{Act, Own, Does, IsAct, step_as}
@@ -47,9 +48,21 @@ EndsWith programs grants w before ((e, act) ∷ moves) last =
     → IsFresh w.files choice
     → EndsWith programs grants (step_as programs w e act choice).world (broken_at grants w e (step_as programs w e act choice).acted) moves last)
 
--- so of the task's runs; without moves nothing is broken
+-- what is done at each move is of the language, the wide one or the other
+abbrev pub is_spoken_act : Bool → Act → Bool
+is_spoken_act wide Own = true
+is_spoken_act wide (Does deed) = is_spoken wide deed.instruction
+
+abbrev pub are_all_spoken : Bool → List Move → Bool
+are_all_spoken wide moves = list_all (λ (move : Move). is_spoken_act wide move.1) moves
+
+-- so of the task's runs; moves that aren't of its language are none, and break nothing, nor does no move
+abbrev pub BreaksIf : Bool → Plan → List Move → Option Breach → Type 0
+BreaksIf true plan moves last = EndsWith (programs_of_plan plan) plan.grants (first_world plan) None moves last
+BreaksIf false plan moves last = last ≡ None
+
 abbrev pub Breaks : Plan → List Move → Option Breach → Type 0
-Breaks plan moves last = EndsWith (programs_of_plan plan) plan.grants (first_world plan) None moves last
+Breaks plan moves last = BreaksIf (are_all_spoken plan.wide moves) plan moves last
 
 -- The last step breaks something.
 abbrev pub BreaksSomething : Plan → List Move → Type 0

@@ -44,6 +44,7 @@ first_calls call = (event_of_process 0, Does (deed_by (Invoke call 0)))
 -- its one process, of an untrusted program, enters the mode and makes a child
 abbrev pub forking_inside_plan : Plan
 forking_inside_plan = record {
+  wide = false;
   nodes = small_tree;
   grants = [];
   programs = record (unmarked (codes "main") (Invoke Cap_enter 2 ∷ Invoke Fork 2 ∷ Halt ∷ [])) { marked = true } ∷ [];

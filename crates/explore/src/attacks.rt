@@ -15,7 +15,7 @@ ghost use Rattle.explore.specs.MoveViews.{move_of};
 use crate::tried_bytes::bytes_to_try;
 use instruction_set::{Instruction, Operand, Path, Syscall, is_valid_path};
 use rights::limits::MAX_DESCRIPTORS;
-use rights::{Memory, OpenFlags, Rights};
+use rights::{Memory, OpenFlags, Rights, is_further_right, operations_of_rights};
 use std::alloc::Global;
 use std::marker::Model;
 use std::mem;
@@ -282,6 +282,21 @@ impl Growing {
             len: Operand::Number(0),
         });
     }
+
+    /// Adds the uses of the further rights that do something, where there are such rights.
+    fn add_uses(&mut self, wide: bool)
+        ensures { self.new ≡ self.old }
+    {
+        let number = self.number;
+        for row in operations_of_rights() {
+            if wide && is_further_right(row.right) {
+                self.add(Syscall::Use {
+                    descriptor: Operand::Number(number),
+                    right: row.right,
+                });
+            }
+        }
+    }
 }
 
 /// The last names of some nodes of a task's tree, each once.
@@ -321,8 +336,14 @@ fn limits_by(alloc: Global, number: u32) -> Result<Vec<AttackAction>, Memory>
     Ok(limits)
 }
 
-/// What may be tried by the descriptor of a number, whatever it is of.
-fn deeds_by(alloc: Global, number: u32, names: &[&[u8]], bytes: &[u8]) -> Result<ByNumber, Memory>
+/// What may be tried by the descriptor of a number, whatever it is of: further rights where the task asks for them.
+fn deeds_by(
+    alloc: Global,
+    wide: bool,
+    number: u32,
+    names: &[&[u8]],
+    bytes: &[u8],
+) -> Result<ByNumber, Memory>
     ensures { IfOk result (λ deeds. IsTriedBy number (deeds_in deeds)) }
 {
     let mut growing = Growing {
@@ -332,6 +353,7 @@ fn deeds_by(alloc: Global, number: u32, names: &[&[u8]], bytes: &[u8]) -> Result
         is_short: false,
     };
     growing.add_plain(bytes);
+    growing.add_uses(wide);
     let plain = growing.take();
     growing.add_open(NEW_NAME, OpenFlags::new(false, true, true, true, false));
     growing.add_on(NEW_NAME, OnName::Make);
@@ -354,11 +376,12 @@ fn deeds_by_each(alloc: Global, task: &Task) -> Result<Vec<ByNumber>, Memory>
     ensures numbers { IfOk result (λ found. length found.items ≡ most_descriptors) }
     ensures calls { IfOk result (λ found. AreTriedByEach (map deeds_in found.items)) }
 {
+    let wide = task.further_rights();
     let names = names_to_try(alloc, task)?;
     let bytes = bytes_to_try(alloc, task)?;
     let mut by_number = Vec::new(alloc);
     for number in 0..MAX_DESCRIPTORS as u32 {
-        by_number.push(deeds_by(alloc, number, &names, &bytes)?)?;
+        by_number.push(deeds_by(alloc, wide, number, &names, &bytes)?)?;
     }
     Ok(by_number)
 }

@@ -10,13 +10,14 @@ ghost use Rattle.simulator.specs.Machines.{machine_world};
 ghost use Rattle.simulator.specs.Steps.{StepsMachineAs};
 ghost use Rattle.simulator.specs.Views.{line_of};
 ghost use Rattle.explore.specs.Breaches.{breach_in};
-ghost use Rattle.explore.specs.Broken.{Breaks, IsRefuted};
+ghost use Rattle.explore.specs.Broken.{Breaks, IsRefuted, are_all_spoken, is_spoken_act};
 ghost use Rattle.explore.specs.BreachViews.{breach_of, status_of};
 ghost use Rattle.explore.specs.MoveViews.{act_of, are_paths_of, move_of};
 
 use crate::attacks::Move;
 use crate::breaches::{ActorStatus, Breach, broken};
 use file_tree::Tree;
+use instruction_set::is_spoken;
 use link_tree::LinkTree;
 use rights::Stop;
 use rights::limits::REGISTERS;
@@ -91,9 +92,29 @@ pub(crate) fn watched_step<T: Tree>(
     Ok(Watched { line, breach })
 }
 
+/// Whether what is done at a move is of the task's language.
+fn is_spoken_move(wide: bool, next: &Move<'_>) -> bool
+    ensures { result ≡ is_spoken_act wide (act_of next.now) }
+{
+    match next.deed {
+        None => true,
+        Some(deed) => is_spoken(wide, deed.instruction()),
+    }
+}
+
+/// Whether what is done at each is.
+fn are_all_spoken(wide: bool, moves: &[Move<'_>]) -> bool
+    ensures { result ≡ are_all_spoken wide (map move_of moves.now) }
+{
+    match moves {
+        [] => true,
+        [first, rest @ ..] => is_spoken_move(wide, first) && are_all_spoken(wide, rest),
+    }
+}
+
 /// Runs the task by the moves, and answers what the last step breaks, if it breaks something: an effect outside the policy of a
 /// process in capability mode, or the refusal of a call of a trusted program for a missing right or by capability mode. What the
-/// steps before break doesn't count. Want of memory is the only error.
+/// steps before break doesn't count, and moves that aren't of the task's language break nothing. Want of memory is the only error.
 ///
 /// Where something is broken, the task isn't confined; and where no move is an attacker's, it isn't sandboxed.
 pub fn breaks(alloc: Global, task: &Task, moves: &[Move<'_>]) -> Result<Option<Breach>, Stop>
@@ -101,6 +122,10 @@ pub fn breaks(alloc: Global, task: &Task, moves: &[Move<'_>]) -> Result<Option<B
     ensures refuted { IfOk result (λ found. IfSome found (λ breach. IsRefuted task.now (map move_of moves.now))) }
     ensures memory { OnErr result (IsErrOf result Stop.Memory) }
 {
+    let spoken = are_all_spoken(task.further_rights(), moves);
+    if !spoken {
+        return Ok(None);
+    }
     let mut machine: Machine<'_, LinkTree> = Machine::start(alloc, task)?;
     let mut breach = None;
     for next in moves {

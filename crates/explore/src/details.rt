@@ -4,7 +4,9 @@ use crate::attacks::Move;
 use crate::breaches::Breach;
 use crate::runners::Runner;
 use bitflags::Flags;
-use call_facts::{Argument, Arguments, arguments_of, first_operand, second_operand};
+use call_facts::{
+    Argument, Arguments, TableChange, arguments_of, first_operand, second_operand, table_change,
+};
 use instruction_set::{Operand, Syscall};
 use rights::{Call, Fcntls, Memory, OpenFlags, Position, Rights, needs};
 use std::alloc::Global;
@@ -50,12 +52,17 @@ fn add_lack(
     true
 }
 
+/// Whether a call limits its descriptor.
+pub(crate) fn is_limit(call: &Syscall) -> bool {
+    table_change(call.call()) == TableChange::Limited
+}
+
 /// What a call needs of its first descriptor, or what a limit keeps of it.
 fn first_need(call: &Syscall) -> (Rights, Fcntls) {
     match arguments_of(call) {
-        Arguments::Two(_, Argument::Rights(rights)) => (rights, Fcntls::empty()),
+        Arguments::Two(_, Argument::Rights(kept)) if is_limit(call) => (kept, Fcntls::empty()),
         Arguments::Two(_, Argument::Commands(commands)) => (Rights::empty(), commands),
-        _ => (call.first_rights(), call.command()),
+        _ => (call.first_rights().union(call.further()), call.command()),
     }
 }
 

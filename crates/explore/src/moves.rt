@@ -7,6 +7,7 @@ ghost use Rattle.explore.specs.Moves.{tried};
 ghost use Rattle.explore.specs.MoveViews.{move_of};
 
 use crate::attacks::{AttackAction, AttackActions, Move};
+use crate::details::is_limit;
 use crate::runners::Runner;
 use crate::states::open_at;
 use call_facts::{
@@ -109,7 +110,7 @@ fn aimed_at(call: &Syscall) -> Option<Op> {
         Some(flags) if flags.create() => Some(Op::Create),
         Some(flags) if flags.write() => Some(Op::Write),
         Some(_) => Some(Op::Read),
-        None => first_operations(call.call(), OpenFlags::unused())
+        None => first_operations(call.call(), OpenFlags::unused(), call.further())
             .first()
             .copied(),
     }
@@ -177,10 +178,14 @@ impl<'r, 'a> Attack<'r, 'a> {
     /// Whether a call should be tried. A limit that leaves less should where the descriptor can be sent.
     fn should(&self, call: &Syscall) -> bool {
         let rights = self.descriptor.rights;
-        if let Arguments::Two(_, Argument::Rights(left)) = arguments_of(call) {
-            return rights.contains(left) && left != rights && has_end(self.runner, self.process);
+        match arguments_of(call) {
+            Arguments::Two(_, Argument::Rights(left)) if is_limit(call) => {
+                let shrinks = rights.contains(left) && left != rights;
+                return shrinks && has_end(self.runner, self.process);
+            }
+            _ => {}
         }
-        if !rights.contains(call.first_rights()) {
+        if !rights.contains(call.first_rights().union(call.further())) {
             return false;
         }
         match &self.object {

@@ -60,7 +60,7 @@ module _ (g : Setting) where
   shows_call mappings p seen made None = false
   shows_call mappings p seen made (Some call) =
       bytes_eq (call_name made.call) (call_name (called call))
-      && all_fit g.placings mappings p seen.registers made.operands (arguments call)
+      && all_fit g.plan.wide g.placings mappings p seen.registers made.operands (arguments call)
       && same_outcome g.pairs made.call made.outcome seen.outcome
 
   abbrev pub shows_event : List FdMapping → ProcessNumber → Seen → RecordedEvent → Bool

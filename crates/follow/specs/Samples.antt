@@ -20,6 +20,7 @@ use Rattle.follow.specs.Shows.{Judges, Move, Steps, Skips, Shows, Witness}
 -- A process with the file `/work/in` as descriptor 2, in the mode or not.
 abbrev pub running : Bool → List Instruction → Plan
 running mode code = record {
+  wide = false;
   nodes = small_tree;
   grants = record { name = codes "work"; path = codes "work" ∷ []; operations = [] } ∷ [];
   programs = unmarked (codes "main") code ∷ [];

@@ -22,6 +22,7 @@ pub(crate) fn may_show(lead: &Lead<'_>, process: u8, call: &Syscall, made: &Made
         return false;
     };
     let names = Names {
+        wide: lead.search.task.further_rights(),
         placings: lead.search.placings,
         mappings: &lead.progress.mappings,
         process: usize::from(process),

@@ -1,6 +1,6 @@
 //! Whether a call of a task is given what a recorded call was given.
 
-ghost use Rattle.std.specs.Prelude.{◌≡◌, List, map, true, ℕ};
+ghost use Rattle.std.specs.Prelude.{◌≡◌, List, map, true, ℕ, Bool};
 ghost use Rattle.call_facts.specs.ArgumentViews.{argument_seen};
 ghost use Rattle.call_facts.specs.Arguments.{arguments};
 ghost use Rattle.instruction_set.specs.Views.{operand_of, syscall_of};
@@ -23,6 +23,8 @@ use rights::{Fcntls, OpenFlags, Rights};
 /// By what a process of the task is compared with one of the record.
 #[derive(Clone, Copy)]
 pub(crate) struct Names<'a> {
+    /// Whether the task asks for further rights.
+    pub wide: bool,
     pub placings: &'a [Placing],
     pub mappings: &'a [FdMapping],
     pub process: usize,
@@ -41,7 +43,7 @@ pub(crate) fn value_of(registers: &[u32; REGISTERS], operand: Operand) -> u32
 
 /// Whether a number that the recorded process was given is what the task's is given.
 fn number_fits(names: &Names<'_>, number: u32, given: &Argument<'_>) -> bool
-    ensures { result ≡ fits (placings_of names.now.placings.now) (mappings_seen names.now.mappings.now) names.now.process names.now.registers.now
+    ensures { result ≡ fits names.now.wide (placings_of names.now.placings.now) (mappings_seen names.now.mappings.now) names.now.process names.now.registers.now
         (operand_seen (Real.Number number)) (argument_seen given.now) }
 {
     match given {
@@ -58,7 +60,7 @@ fn number_fits(names: &Names<'_>, number: u32, given: &Argument<'_>) -> bool
 
 /// Whether a path that the recorded process was given is what the task's is given.
 fn path_fits(names: &Names<'_>, path: &[u8], given: &Argument<'_>) -> bool
-    ensures { result ≡ fits (placings_of names.now.placings.now) (mappings_seen names.now.mappings.now) names.now.process names.now.registers.now
+    ensures { result ≡ fits names.now.wide (placings_of names.now.placings.now) (mappings_seen names.now.mappings.now) names.now.process names.now.registers.now
         (calls.Path path.now) (argument_seen given.now) }
 {
     match given {
@@ -69,8 +71,8 @@ fn path_fits(names: &Names<'_>, path: &[u8], given: &Argument<'_>) -> bool
 
 /// Whether flags that a recorded process was given are what the task's is given, by any names.
 fn flags_fit(flags: OpenFlags, given: &Argument<'_>) -> bool
-    ensures { (placings : List PlacingSeen) (mappings : List FdMappingSeen) (process : ℕ) (registers : List ℕ)
-        → result ≡ fits placings mappings process registers (calls.Flags flags) (argument_seen given.now) }
+    ensures { (wide : Bool) (placings : List PlacingSeen) (mappings : List FdMappingSeen) (process : ℕ) (registers : List ℕ)
+        → result ≡ fits wide placings mappings process registers (calls.Flags flags) (argument_seen given.now) }
 {
     match given {
         Argument::Flags(own) => flags == *own,
@@ -79,20 +81,20 @@ fn flags_fit(flags: OpenFlags, given: &Argument<'_>) -> bool
 }
 
 /// The same of rights.
-fn rights_fit(rights: Rights, given: &Argument<'_>) -> bool
+fn rights_fit(wide: bool, rights: Rights, given: &Argument<'_>) -> bool
     ensures { (placings : List PlacingSeen) (mappings : List FdMappingSeen) (process : ℕ) (registers : List ℕ)
-        → result ≡ fits placings mappings process registers (calls.Rights rights.0) (argument_seen given.now) }
+        → result ≡ fits wide placings mappings process registers (calls.Rights rights.0) (argument_seen given.now) }
 {
     match given {
-        Argument::Rights(own) => rights == *own,
+        Argument::Rights(own) => rights.asked(wide) == *own,
         _ => false,
     }
 }
 
 /// The same of fcntl commands.
 fn commands_fit(commands: Fcntls, given: &Argument<'_>) -> bool
-    ensures { (placings : List PlacingSeen) (mappings : List FdMappingSeen) (process : ℕ) (registers : List ℕ)
-        → result ≡ fits placings mappings process registers (calls.Commands commands.0) (argument_seen given.now) }
+    ensures { (wide : Bool) (placings : List PlacingSeen) (mappings : List FdMappingSeen) (process : ℕ) (registers : List ℕ)
+        → result ≡ fits wide placings mappings process registers (calls.Commands commands.0) (argument_seen given.now) }
 {
     match given {
         Argument::Commands(own) => commands == *own,
@@ -102,8 +104,8 @@ fn commands_fit(commands: Fcntls, given: &Argument<'_>) -> bool
 
 /// The same of whether a directory is to be removed.
 fn choice_fits(asked: bool, given: &Argument<'_>) -> bool
-    ensures { (placings : List PlacingSeen) (mappings : List FdMappingSeen) (process : ℕ) (registers : List ℕ)
-        → result ≡ fits placings mappings process registers (calls.Directory asked) (argument_seen given.now) }
+    ensures { (wide : Bool) (placings : List PlacingSeen) (mappings : List FdMappingSeen) (process : ℕ) (registers : List ℕ)
+        → result ≡ fits wide placings mappings process registers (calls.Directory asked) (argument_seen given.now) }
 {
     match given {
         Argument::Choice(own) => asked == *own,
@@ -113,14 +115,14 @@ fn choice_fits(asked: bool, given: &Argument<'_>) -> bool
 
 /// Whether what the recorded process was given is what the task's is given.
 fn fits(names: &Names<'_>, real: &Real, given: &Argument<'_>) -> bool
-    ensures { result ≡ fits (placings_of names.now.placings.now) (mappings_seen names.now.mappings.now) names.now.process names.now.registers.now
+    ensures { result ≡ fits names.now.wide (placings_of names.now.placings.now) (mappings_seen names.now.mappings.now) names.now.process names.now.registers.now
         (operand_seen real.now) (argument_seen given.now) }
 {
     match real {
         Real::Number(number) => number_fits(names, *number, given),
         Real::Path(path) => path_fits(names, path, given),
         Real::Flags(flags) => flags_fit(*flags, given),
-        Real::Rights(rights) => rights_fit(*rights, given),
+        Real::Rights(rights) => rights_fit(names.wide, *rights, given),
         Real::Commands(commands) => commands_fit(*commands, given),
         Real::Directory(asked) => choice_fits(*asked, given),
     }
@@ -128,7 +130,7 @@ fn fits(names: &Names<'_>, real: &Real, given: &Argument<'_>) -> bool
 
 /// Whether all that the recorded process was given is what the task's is given.
 fn all_fit(names: &Names<'_>, operands: &[Real], given: &[Argument<'_>]) -> bool
-    ensures { result ≡ all_fit (placings_of names.now.placings.now) (mappings_seen names.now.mappings.now) names.now.process names.now.registers.now
+    ensures { result ≡ all_fit names.now.wide (placings_of names.now.placings.now) (mappings_seen names.now.mappings.now) names.now.process names.now.registers.now
         (map operand_seen operands.now) (map argument_seen given.now) }
 {
     match operands {
@@ -142,7 +144,7 @@ fn all_fit(names: &Names<'_>, operands: &[Real], given: &[Argument<'_>]) -> bool
 
 /// Whether a call is given what the recorded process was given.
 pub(crate) fn call_fits(names: &Names<'_>, call: &Syscall, operands: &[Real]) -> bool
-    ensures { result ≡ all_fit (placings_of names.now.placings.now) (mappings_seen names.now.mappings.now) names.now.process names.now.registers.now
+    ensures { result ≡ all_fit names.now.wide (placings_of names.now.placings.now) (mappings_seen names.now.mappings.now) names.now.process names.now.registers.now
         (map operand_seen operands.now) (arguments (syscall_of call.now)) }
 {
     match arguments_of(call) {

@@ -144,6 +144,7 @@ fn shows_call(
         return false;
     };
     let names = Names {
+        wide: setting.task.further_rights(),
         placings: setting.placings,
         mappings,
         process,

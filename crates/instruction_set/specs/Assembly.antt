@@ -47,33 +47,33 @@ abbrev pub operands_read : Option Written → Result (Option Written) Mistake
 operands_read None = Err Operand
 operands_read (Some written) = Ok (Some written)
 
-abbrev pub read_as : Option Mnemonic → List (List ℕ) → Result (Option Written) Mistake
-read_as None operands = Err Word
-read_as (Some mnemonic) operands = operands_read (written_of mnemonic operands)
+abbrev pub read_as : Bool → Option Mnemonic → List (List ℕ) → Result (Option Written) Mistake
+read_as wide None operands = Err Word
+read_as wide (Some mnemonic) operands = operands_read (written_of wide mnemonic operands)
 
-abbrev pub instruction_in : List (List ℕ) → Result (Option Written) Mistake
-instruction_in [] = Ok None
-instruction_in (word ∷ operands) = read_as (mnemonic_of word) operands
+abbrev pub instruction_in : Bool → List (List ℕ) → Result (Option Written) Mistake
+instruction_in wide [] = Ok None
+instruction_in wide (word ∷ operands) = read_as wide (mnemonic_of wide word) operands
 
 abbrev pub with_label : Option (List ℕ) → Result (Option Written) Mistake → Result Line Mistake
 with_label label (Err mistake) = Err mistake
 with_label label (Ok instruction) = Ok (line_with label instruction)
 
 -- A first word that ends with a colon is a label.
-abbrev pub labelled : Option (List ℕ) → List ℕ → List (List ℕ) → Result Line Mistake
-labelled None word words = with_label None (instruction_in (word ∷ words))
-labelled (Some name) word words = if is_name name then with_label (Some name) (instruction_in words) else Err Word
+abbrev pub labelled : Bool → Option (List ℕ) → List ℕ → List (List ℕ) → Result Line Mistake
+labelled wide None word words = with_label None (instruction_in wide (word ∷ words))
+labelled wide (Some name) word words = if is_name name then with_label (Some name) (instruction_in wide words) else Err Word
 
-abbrev pub line_read_of : List (List ℕ) → Result Line Mistake
-line_read_of [] = Ok (line_with None None)
-line_read_of (word ∷ words) = labelled (before_last colon word) word words
+abbrev pub line_read_of : Bool → List (List ℕ) → Result Line Mistake
+line_read_of wide [] = Ok (line_with None None)
+line_read_of wide (word ∷ words) = labelled wide (before_last colon word) word words
 
-abbrev pub line_of_code : List ℕ → Result Line Mistake
-line_of_code code = if has_stray code then Err Word else line_read_of (quoted_words code)
+abbrev pub line_of_code : Bool → List ℕ → Result Line Mistake
+line_of_code wide code = if has_stray code then Err Word else line_read_of wide (quoted_words code)
 
--- a line by itself
-unfoldable pub line_read : List ℕ → Result Line Mistake
-line_read text = line_of_code (uncommented text)
+-- a line by itself, in the wide language or the other
+unfoldable pub line_read : Bool → List ℕ → Result Line Mistake
+line_read wide text = line_of_code wide (uncommented text)
 
 -- An instruction, with its line.
 pub record Step : Type 0 where
@@ -127,11 +127,11 @@ told_at before (Err mistake) = Err (fault mistake (length before + 1))
 told_at before (Ok line) = Ok line
 
 -- All lines, or the first mistake.
-abbrev pub lines_behind : List Line → List (List ℕ) → Result (List Line) Fault
-lines_behind before [] = Ok before
-lines_behind before (text ∷ texts) = do
-  line ← told_at before (line_behind before (line_read text))
-  lines_behind (before ++ line ∷ []) texts
+abbrev pub lines_behind : Bool → List Line → List (List ℕ) → Result (List Line) Fault
+lines_behind wide before [] = Ok before
+lines_behind wide before (text ∷ texts) = do
+  line ← told_at before (line_behind before (line_read wide text))
+  lines_behind wide (before ++ line ∷ []) texts
 
 -- A label names the next instruction: one on its own line, or else the first behind it. Where there is
 -- none, the label is missing. The lines have points from `point` on.
@@ -179,8 +179,11 @@ program_read lines = do
   code ← code_from (point_named lines) (steps_of lines)
   complete (steps_of lines) code
 
--- What a text stands for.
-unfoldable pub assembly_of : List ℕ → Result (List Instruction) Fault
-assembly_of text = do
-  lines ← lines_behind [] (text_lines text)
+-- What a text stands for in the wide language or in the other; and in the other.
+unfoldable pub assembly_in : Bool → List ℕ → Result (List Instruction) Fault
+assembly_in wide text = do
+  lines ← lines_behind wide [] (text_lines text)
   program_read lines
+
+abbrev pub assembly_of : List ℕ → Result (List Instruction) Fault
+assembly_of text = assembly_in false text

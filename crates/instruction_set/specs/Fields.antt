@@ -3,7 +3,8 @@ use Rattle.std.specs.Prelude.{◌==◌, ◌-◌, ◌^◌, ℕ, Bool, false, ◌&
 use Rattle.std.specs.Str.{bytes_eq}
 use Rattle.texts.specs.Bytes.{quote, comma}
 use Rattle.rights.specs.Opens.{OpenRequest, is_valid, open_request}
-use Rattle.rights.specs.Sets.{is_within, right_names, command_names}
+use Rattle.rights.specs.Sets.{is_within, plain_rights, right_names, command_names}
+use Rattle.rights.specs.Uses.{is_further_right}
 use Rattle.texts.specs.Names.{is_name}
 use Rattle.texts.specs.Numbers.{at_most, number_of}
 use Rattle.texts.specs.Parts.{parts}
@@ -64,8 +65,21 @@ union_from names set (word ∷ words) =
 abbrev pub set_of : List (List ℕ × ℕ) → List ℕ → Option ℕ
 set_of names word = if bytes_eq word (codes "none") then Some 0 else union_from names 0 (parts comma word)
 
-abbrev pub read_rights : List ℕ → Option ℕ
-read_rights word = set_of right_names word
+-- Further rights are words of the wide language alone.
+abbrev pub rights_in : Bool → Option ℕ → Option ℕ
+rights_in wide None = None
+rights_in wide (Some rights) = if wide || is_within rights plain_rights then Some rights else None
+
+abbrev pub read_rights : Bool → List ℕ → Option ℕ
+read_rights wide word = rights_in wide (set_of right_names word)
+
+-- one further right, by its name
+abbrev pub further_in : Option ℕ → Option ℕ
+further_in None = None
+further_in (Some right) = if is_further_right right then Some right else None
+
+abbrev pub read_further : List ℕ → Option ℕ
+read_further word = further_in (set_of_word right_names word)
 
 abbrev pub read_commands : List ℕ → Option ℕ
 read_commands word = set_of command_names word

@@ -7,7 +7,7 @@ use Rattle.rights.specs.Calls as calls
 use Rattle.rights.specs.Opens.{OpenRequest}
 use Rattle.instruction_set.specs.Programs.{Operand, Syscall, Instruction}
 use Rattle.instruction_set.specs.Programs as programs
-use Rattle.instruction_set.specs.Fields.{read_name, read_value, read_register, read_operand, read_path, read_rights, read_commands, read_flags}
+use Rattle.instruction_set.specs.Fields.{read_name, read_value, read_register, read_operand, read_path, read_rights, read_further, read_commands, read_flags}
 
 -- the word that an instruction begins with
 pub data Mnemonic : Type 0 where
@@ -40,14 +40,20 @@ mnemonics =
     ∷ Make calls.Fcntl_getfl ∷ Make calls.Fcntl_setfl ∷ Make calls.Fstatat ∷ Make calls.Stat ∷ Make calls.Mkdirat
     ∷ Make calls.Mkdir ∷ Make calls.Unlinkat ∷ Make calls.Unlink ∷ Make calls.Renameat ∷ Make calls.Dup ∷ Make calls.Close
     ∷ Make calls.Cap_rights_limit ∷ Make calls.Cap_fcntls_limit ∷ Make calls.Cap_enter ∷ Make calls.Cap_getmode
-    ∷ Make calls.Socketpair ∷ Make calls.Fork ∷ []
+    ∷ Make calls.Socketpair ∷ Make calls.Fork ∷ Make calls.Use ∷ []
 
 abbrev pub mnemonic_among : List Mnemonic → List ℕ → Option Mnemonic
 mnemonic_among [] word = None
 mnemonic_among (m ∷ ms) word = if bytes_eq word (mnemonic_name m) then Some m else mnemonic_among ms word
 
-abbrev pub mnemonic_of : List ℕ → Option Mnemonic
-mnemonic_of word = mnemonic_among mnemonics word
+-- `use` is a word of the wide language alone.
+abbrev pub known_in : Bool → Option Mnemonic → Option Mnemonic
+known_in wide None = None
+known_in wide (Some (Make calls.Use)) = if wide then Some (Make calls.Use) else None
+known_in wide (Some m) = Some m
+
+abbrev pub mnemonic_of : Bool → List ℕ → Option Mnemonic
+mnemonic_of wide word = known_in wide (mnemonic_among mnemonics word)
 
 -- An instruction that leads to a label, but for the label.
 pub data Jump : Type 0 where
@@ -98,8 +104,11 @@ path_at words = word_at read_path words
 unfoldable pub flags_at : Field OpenRequest
 flags_at words = word_at read_flags words
 
-unfoldable pub rights_at : Field ℕ
-rights_at words = word_at read_rights words
+unfoldable pub rights_at : Bool → Field ℕ
+rights_at wide words = word_at (read_rights wide) words
+
+unfoldable pub further_at : Field ℕ
+further_at words = word_at read_further words
 
 unfoldable pub commands_at : Field ℕ
 commands_at words = word_at read_commands words
@@ -147,54 +156,55 @@ four first second third fourth make words = do
   d ← fourth c.1
   Some (make a.0 b.0 c.0 d.0, d.1)
 
--- the operands of each call
-unfoldable pub syscall_at : Call → Field Syscall
-syscall_at calls.Open = two path_at flags_at programs.Open
-syscall_at calls.Openat = three operand_at path_at flags_at programs.Openat
-syscall_at calls.Read = one operand_at programs.Read
-syscall_at calls.Write = two operand_at operand_at programs.Write
-syscall_at calls.Sendfd = three operand_at operand_at operand_at programs.Sendfd
-syscall_at calls.Recvfd = one operand_at programs.Recvfd
-syscall_at calls.Lseek = two operand_at operand_at programs.Lseek
-syscall_at calls.Ftruncate = two operand_at operand_at programs.Ftruncate
-syscall_at calls.Fsync = one operand_at programs.Fsync
-syscall_at calls.Fstat = one operand_at programs.Fstat
-syscall_at calls.Fcntl_getfl = one operand_at programs.Fcntl_getfl
-syscall_at calls.Fcntl_setfl = two operand_at operand_at programs.Fcntl_setfl
-syscall_at calls.Fstatat = two operand_at path_at programs.Fstatat
-syscall_at calls.Stat = one path_at programs.Stat
-syscall_at calls.Mkdirat = two operand_at path_at programs.Mkdirat
-syscall_at calls.Mkdir = one path_at programs.Mkdir
-syscall_at calls.Unlinkat = three operand_at path_at directory_at programs.Unlinkat
-syscall_at calls.Unlink = two path_at directory_at programs.Unlink
-syscall_at calls.Renameat = four operand_at path_at operand_at path_at programs.Renameat
-syscall_at calls.Dup = one operand_at programs.Dup
-syscall_at calls.Close = one operand_at programs.Close
-syscall_at calls.Cap_rights_limit = two operand_at rights_at programs.Cap_rights_limit
-syscall_at calls.Cap_fcntls_limit = two operand_at commands_at programs.Cap_fcntls_limit
-syscall_at calls.Cap_enter = nothing programs.Cap_enter
-syscall_at calls.Cap_getmode = nothing programs.Cap_getmode
-syscall_at calls.Socketpair = nothing programs.Socketpair
-syscall_at calls.Fork = nothing programs.Fork
+-- the operands of each call, in the wide language or the other
+unfoldable pub syscall_at : Bool → Call → Field Syscall
+syscall_at wide calls.Open = two path_at flags_at programs.Open
+syscall_at wide calls.Openat = three operand_at path_at flags_at programs.Openat
+syscall_at wide calls.Read = one operand_at programs.Read
+syscall_at wide calls.Write = two operand_at operand_at programs.Write
+syscall_at wide calls.Sendfd = three operand_at operand_at operand_at programs.Sendfd
+syscall_at wide calls.Recvfd = one operand_at programs.Recvfd
+syscall_at wide calls.Lseek = two operand_at operand_at programs.Lseek
+syscall_at wide calls.Ftruncate = two operand_at operand_at programs.Ftruncate
+syscall_at wide calls.Fsync = one operand_at programs.Fsync
+syscall_at wide calls.Fstat = one operand_at programs.Fstat
+syscall_at wide calls.Fcntl_getfl = one operand_at programs.Fcntl_getfl
+syscall_at wide calls.Fcntl_setfl = two operand_at operand_at programs.Fcntl_setfl
+syscall_at wide calls.Fstatat = two operand_at path_at programs.Fstatat
+syscall_at wide calls.Stat = one path_at programs.Stat
+syscall_at wide calls.Mkdirat = two operand_at path_at programs.Mkdirat
+syscall_at wide calls.Mkdir = one path_at programs.Mkdir
+syscall_at wide calls.Unlinkat = three operand_at path_at directory_at programs.Unlinkat
+syscall_at wide calls.Unlink = two path_at directory_at programs.Unlink
+syscall_at wide calls.Renameat = four operand_at path_at operand_at path_at programs.Renameat
+syscall_at wide calls.Dup = one operand_at programs.Dup
+syscall_at wide calls.Close = one operand_at programs.Close
+syscall_at wide calls.Cap_rights_limit = two operand_at (rights_at wide) programs.Cap_rights_limit
+syscall_at wide calls.Cap_fcntls_limit = two operand_at commands_at programs.Cap_fcntls_limit
+syscall_at wide calls.Cap_enter = nothing programs.Cap_enter
+syscall_at wide calls.Cap_getmode = nothing programs.Cap_getmode
+syscall_at wide calls.Socketpair = nothing programs.Socketpair
+syscall_at wide calls.Fork = nothing programs.Fork
+syscall_at wide calls.Use = two operand_at further_at programs.Use
 
 -- the operands of each instruction
-unfoldable pub written_at : Mnemonic → Field Written
-written_at Set = two register_at number_at (λ register value. Alone (programs.Set register value))
-written_at Mov = two register_at register_at (λ register source. Alone (programs.Mov register source))
-written_at Add = two register_at register_at (λ register addend. Alone (programs.Add register addend))
-written_at In = one register_at (λ register. Alone (programs.In register))
-written_at Jmp = one label_at (λ name. Leading Always name)
-written_at Jeq = three register_at number_at label_at (λ register value name. Leading (If_equal register value) name)
-written_at Jlt = three register_at number_at label_at (λ register value name. Leading (If_less register value) name)
-written_at Halt = nothing (Alone programs.Halt)
-written_at (Make call) = two (syscall_at call) else_at (λ call name. Leading (After_error call) name)
+unfoldable pub written_at : Bool → Mnemonic → Field Written
+written_at wide Set = two register_at number_at (λ register value. Alone (programs.Set register value))
+written_at wide Mov = two register_at register_at (λ register source. Alone (programs.Mov register source))
+written_at wide Add = two register_at register_at (λ register addend. Alone (programs.Add register addend))
+written_at wide In = one register_at (λ register. Alone (programs.In register))
+written_at wide Jmp = one label_at (λ name. Leading Always name)
+written_at wide Jeq = three register_at number_at label_at (λ register value name. Leading (If_equal register value) name)
+written_at wide Jlt = three register_at number_at label_at (λ register value name. Leading (If_less register value) name)
+written_at wide Halt = nothing (Alone programs.Halt)
+written_at wide (Make call) = two (syscall_at wide call) else_at (λ call name. Leading (After_error call) name)
 
 -- no word is left
 abbrev pub whole : {A : Type 0} → A → List (List ℕ) → Option A
 whole a [] = Some a
 whole a (word ∷ words) = None
 
-abbrev pub written_of : Mnemonic → List (List ℕ) → Option Written
-written_of mnemonic words = do
-  read ← written_at mnemonic words
+abbrev pub written_of : Bool → Mnemonic → List (List ℕ) → Option Written
+written_of wide mnemonic words = do
+  read ← written_at wide mnemonic words
   whole read.0 read.1

@@ -2,6 +2,7 @@ pub mod Assembly
 pub mod CallNeeds
 pub mod Fields
 pub mod Forms
+pub mod Languages
 pub mod Lines
 pub mod Paths
 pub mod Programs

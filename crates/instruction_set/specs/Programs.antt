@@ -7,6 +7,7 @@ use Rattle.rights.specs.Values.{PathText, RightSet, CommandSet}
 use Rattle.texts.specs.Bytes.{quote, backslash}
 use Rattle.rights.specs.Opens.{OpenRequest, is_valid}
 use Rattle.rights.specs.Sets.{is_within, all_rights, all_commands}
+use Rattle.rights.specs.Uses.{is_further_right}
 use Rattle.rights.specs.Calls.{Call}
 use Rattle.rights.specs.Calls as calls
 
@@ -19,7 +20,7 @@ pub data Operand : Type 0 where
 -- (capsicum(4), open(2), read(2), write(2), lseek(2), ftruncate(2), fsync(2), fstat(2), fcntl(2),
 -- mkdir(2), unlink(2), rename(2), dup(2), close(2), cap_rights_limit(2), cap_fcntls_limit(2),
 -- cap_enter(2), socketpair(2), fork(2); sendfd and recvfd are sendmsg(2) and recvmsg(2) with one
--- descriptor; that an operand may be a register is own)
+-- descriptor; use stands for each call that needs a further right, after rights(4); that an operand may be a register is own)
 pub data Syscall : Type 0 where
   Open : (path : PathText) (flags : OpenRequest) → Syscall
   Openat : (descriptor : Operand) (path : PathText) (flags : OpenRequest) → Syscall
@@ -48,6 +49,7 @@ pub data Syscall : Type 0 where
   Cap_getmode : Syscall
   Socketpair : Syscall
   Fork : Syscall
+  Use : (descriptor : Operand) (right : RightSet) → Syscall
 
 -- the call without its operands
 abbrev pub called : Syscall → Call
@@ -78,6 +80,7 @@ called Cap_enter = calls.Cap_enter
 called Cap_getmode = calls.Cap_getmode
 called Socketpair = calls.Socketpair
 called Fork = calls.Fork
+called (Use descriptor right) = calls.Use
 
 -- An instruction. A target is a point. (own)
 pub data Instruction : Type 0 where
@@ -109,7 +112,7 @@ is_path_byte byte = nat_le 33 byte && nat_le byte 126 && not (byte == quote) && 
 abbrev pub is_path : PathText → Bool
 is_path path = list_all is_path_byte path
 
--- each operand is one, each path a path, each open's flags are valid, and limits leave rights and commands that there are
+-- each operand is one, each path a path, each open's flags are valid, limits leave rights and commands that there are, and a use is of one further right
 abbrev pub is_syscall : Syscall → Bool
 is_syscall (Open path flags) = is_path path && is_valid flags
 is_syscall (Openat descriptor path flags) = is_operand descriptor && is_path path && is_valid flags
@@ -138,6 +141,7 @@ is_syscall Cap_enter = true
 is_syscall Cap_getmode = true
 is_syscall Socketpair = true
 is_syscall Fork = true
+is_syscall (Use descriptor right) = is_operand descriptor && is_further_right right
 
 -- each register is one, each number a register can hold, each target a point of the program
 abbrev pub is_instruction : ℕ → Instruction → Bool

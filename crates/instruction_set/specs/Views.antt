@@ -42,6 +42,7 @@ syscall_of call.CapEnter = programs.Cap_enter
 syscall_of call.CapGetmode = programs.Cap_getmode
 syscall_of call.Socketpair = programs.Socketpair
 syscall_of call.Fork = programs.Fork
+syscall_of (call.Use descriptor right) = programs.Use (operand_of descriptor) right.0
 
 abbrev pub instruction_of : InstructionCode → Instruction
 instruction_of (instruction.Set register value) = programs.Set register value

@@ -1,11 +1,11 @@
 //! What a system call needs of its first descriptor, whatever its process has open.
 
 ghost use Rattle.std.specs.Prelude.{◌≡◌};
-ghost use Rattle.instruction_set.specs.CallNeeds.{command_of, first_rights, flags_in};
+ghost use Rattle.instruction_set.specs.CallNeeds.{command_of, first_rights, flags_in, further_of};
 ghost use Rattle.instruction_set.specs.Views.{syscall_of};
 
 use crate::instructions::Syscall;
-use rights::{Fcntls, OpenFlags, Position, Rights, command_needed, needs};
+use rights::{Fcntls, OpenFlags, Position, Rights, command_needed, companions_of, needs};
 
 impl Syscall {
     /// The flags that its needs go by.
@@ -29,7 +29,7 @@ impl Syscall {
             }
             Syscall::CapRightsLimit { .. } | Syscall::CapFcntlsLimit { .. } => OpenFlags::unused(),
             Syscall::CapEnter | Syscall::CapGetmode => OpenFlags::unused(),
-            Syscall::Socketpair | Syscall::Fork => OpenFlags::unused(),
+            Syscall::Socketpair | Syscall::Fork | Syscall::Use { .. } => OpenFlags::unused(),
         }
     }
 
@@ -37,7 +37,20 @@ impl Syscall {
     pub fn first_rights(&self) -> Rights
         ensures { result.0 ≡ first_rights (syscall_of self.now) }
     {
-        needs(self.call(), self.flags(), Position::First, false)
+        match self {
+            Syscall::Use { right, .. } => companions_of(*right),
+            _ => needs(self.call(), self.flags(), Position::First, false),
+        }
+    }
+
+    /// The further right that it goes by; none where it goes by none. (rights(4))
+    pub fn further(&self) -> Rights
+        ensures { result.0 ≡ further_of (syscall_of self.now) }
+    {
+        match self {
+            Syscall::Use { right, .. } => *right,
+            _ => Rights::empty(),
+        }
     }
 
     /// The fcntl command that it goes by; none where it goes by none. (cap_fcntls_limit(2))

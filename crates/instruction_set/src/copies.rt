@@ -64,6 +64,7 @@ impl Syscall {
             Syscall::CapGetmode => Syscall::CapGetmode,
             Syscall::Socketpair => Syscall::Socketpair,
             Syscall::Fork => Syscall::Fork,
+            Syscall::Use { descriptor, right } => Syscall::Use { descriptor, right },
             Syscall::Open { .. } | Syscall::Stat { .. } | Syscall::Mkdir { .. } => unreachable!(),
             Syscall::Openat { .. } | Syscall::Fstatat { .. } => unreachable!(),
             Syscall::Mkdirat { .. } | Syscall::Unlinkat { .. } => unreachable!(),
@@ -169,7 +170,8 @@ impl Syscall {
             | Syscall::CapEnter
             | Syscall::CapGetmode
             | Syscall::Socketpair
-            | Syscall::Fork => Ok(self.copy_plain()),
+            | Syscall::Fork
+            | Syscall::Use { .. } => Ok(self.copy_plain()),
         }
     }
 }

@@ -130,6 +130,11 @@ pub enum Syscall {
     Socketpair,
     /// Makes a child. (fork(2))
     Fork,
+    /// Makes a call that needs the further right. (rights(4))
+    Use {
+        descriptor: Operand,
+        right: Rights,
+    },
 }
 
 impl Syscall {
@@ -165,6 +170,7 @@ impl Syscall {
             Syscall::CapGetmode => Call::CapGetmode,
             Syscall::Socketpair => Call::Socketpair,
             Syscall::Fork => Call::Fork,
+            Syscall::Use { .. } => Call::Use,
         }
     }
 }

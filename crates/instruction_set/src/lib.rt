@@ -4,11 +4,13 @@
 pub mod call_needs;
 mod copies;
 pub mod instructions;
+pub mod languages;
 pub mod operands;
 pub mod programs;
 pub mod successors;
 
 pub use instructions::{Instruction, Syscall};
+pub use languages::is_spoken;
 pub use operands::{Operand, Path, Register, is_valid_path};
 pub use programs::Program;
 pub use successors::{Successors, successors_at};

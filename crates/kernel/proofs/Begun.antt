@@ -9,7 +9,7 @@ use Rattle.kernel.specs.Answers.{Event}
 use Rattle.kernel.specs.Runs.{NextWorldExists}
 use Rattle.kernel.specs.Steps.{Executed, Programs, after_deed, changed_at, executed, next_instruction, step, stepped, stepped_at, stepped_by}
 use Rattle.kernel.specs.WellFormed.{IsBegun}
-use Rattle.kernel.proofs.Deeds.{IsLike, StaysOrEnds, after_end, changed_cases, each_executed, is_end, stays_or_ends}
+use Rattle.kernel.proofs.Deeds.{StaysOrEnds, stays_none, after_end, changed_cases, each_executed, stays_or_ends}
 use Rattle.kernel.proofs.Keeping.{next_formed}
 use Rattle.kernel.proofs.KeptWalks.{set_other_cases}
 
@@ -55,8 +55,8 @@ module _ (w : World) (e : Event) (choice : Choice) (others : (q : ℕ) → q ≢
     begun_after : (o : Option Deed) → s.kept ≡ o → (i : Instruction) (q : ℕ) →
         IsBegun (slice_get (after_deed o e.process (length w.processes) (executed w e choice s i).outcome (executed w e choice s i).world.processes) q)
     begun_after None none i q =
-        each_executed w e choice s (λ k o. IsBegun o) (here_or_other (Some s) made (λ walk. none)) (λ t like. λ walk. like.kept none)
-        (λ t like. λ walk. like.kept none) i q
+        each_executed w e choice s (λ k o. IsBegun o) (here_or_other (Some s) made (λ walk. none)) (λ t like. λ walk. stays_none like none)
+        (λ t like. λ walk. stays_none like none) i q
     begun_after (Some deed) is i q = begun_deed deed i (stays_or_ends w e choice s i) q
 
     begun_nowhere : (o : Option Deed) (here : Option Instruction) → s.kept ≡ o → next_instruction o here ≡ None → IsBegun (Some s)

@@ -21,7 +21,7 @@ use Rattle.lookup.specs.Paths.{last_component}
 use Rattle.lookup.specs.Promises.{IsLinked, IsFindingThere, HasName, IsUnderName}
 use Rattle.process.specs.State.{ProcessState}
 use Rattle.instruction_set.specs.Programs.{Syscall, Open, Openat, Read, Write, Sendfd, Recvfd, Lseek, Ftruncate, Fsync, Fstat, Fcntl_getfl, Fcntl_setfl, Fstatat, Stat, Mkdirat, Mkdir}
-use Rattle.instruction_set.specs.Programs.{Unlinkat, Unlink, Renameat, Dup, Close, Cap_rights_limit, Cap_fcntls_limit, Cap_enter, Cap_getmode, Socketpair, Fork, is_path}
+use Rattle.instruction_set.specs.Programs.{Unlinkat, Unlink, Renameat, Dup, Close, Cap_rights_limit, Cap_fcntls_limit, Cap_enter, Cap_getmode, Socketpair, Fork, Use, is_path}
 use Rattle.rights.specs.Sides.{other_side}
 use Rattle.fd_table.specs.Descriptions.{Access, Object, At_node, At_end, State, Descriptor, Message, bit_of, status_number, IfHeld}
 use Rattle.fd_table.specs.OpenFiles.{is_open, lowest_from, lowest_free}
@@ -483,6 +483,11 @@ module _ (programs : Programs) (g : Ground) (standing : Standing programs g) (p 
   sound Cap_enter valid fits left = sound-gives g _ _ _ (record { small = zero_small; tree = standing.good.tree; table = tt; queue = tt; state = tt })
   sound Cap_getmode valid fits left = sound-gives g _ _ _ (nothing (bit_of s.mode 1) (small_bit s.mode))
   sound Socketpair valid fits left = sound-pair_at (lowest_free (w.files.table p)) refl
+  sound (Use x right) valid fits left =
+      sound-unless g _ _ _ _ (λ outside. sound-entry (value_of s x) _ (λ d low fine. sound-unless g _ _ _ _ (λ has.
+      sound-object g d.description (w.files.objects d.description) _ _ fine.0.object
+      (λ n access opened. sound-unless g _ _ _ _ (λ fit. sound-unless g _ _ _ _ (λ allowed. sound-gives g _ _ _ (nothing 0 zero_small))))
+      (λ pair side low. sound-unless g _ _ _ _ (λ fit. sound-unless g _ _ _ _ (λ allowed. sound-gives g _ _ _ (nothing 0 zero_small)))))))
   sound Fork valid fits left =
       sound-unless g _ _ _ _ (λ room. sound-unless g _ _ _ _ (λ allowed.
       let few : length w.processes < 16 = below _ _ room in

@@ -9,8 +9,8 @@ use Rattle.instruction_set.specs.Programs.{Instruction, Set, Mov, Add, In, Jmp, 
 use Rattle.kernel.specs.World.{World, Choice}
 use Rattle.kernel.specs.Answers.{Event, TableChange, Same_table, Set_entry, Clear_entry, New_file, New_pair, New_process, Answer, Fails, Waits, Gives, Walks}
 use Rattle.kernel.specs.Calls.{answer}
-use Rattle.kernel.specs.Changes.{given, processes_after, files_after, changed}
-use Rattle.kernel.specs.Steps.{LineResult, No_call, Halted, Value, Failed, Waiting, Walks_on, Ended, Executed, after_deed, answered, changed_at, executed, failed, jumped, register}
+use Rattle.kernel.specs.Changes.{given, processes_after, changed}
+use Rattle.kernel.specs.Steps.{LineResult, No_call, Halted, Value, Failed, Waiting, Walks_on, Ended, Executed, after_deed, answered, changed_at, executed, failed, jumped}
 use Rattle.kernel.specs.Steps.{with_process}
 use Rattle.kernel.proofs.KeptWalks.{slice_get-more_cases}
 use Rattle.kernel.proofs.Points.{still_on}
@@ -131,7 +131,10 @@ pub record IsLike (s t : ProcessState) : Type 0 where
   pub program : t.program ≡ s.program
   pub marked : t.marked ≡ s.marked
   pub mode : s.mode ≡ true → t.mode ≡ true
-  pub kept : s.kept ≡ None → t.kept ≡ None
+  pub kept : (t.kept ≡ s.kept) ⊎ (t.kept ≡ None)
+
+pub stays_none : {s t : ProcessState} → IsLike s t → s.kept ≡ None → t.kept ≡ None
+stays_none like none = elim like.kept [ inl same ↦ same ∙ none | inr own ↦ own ]
 
 module _ (w : World) (e : Event) (choice : Choice) (s : ProcessState) where
   -- its own process and a child are like it, and the others are as they were
@@ -156,29 +159,29 @@ module _ (w : World) (e : Event) (choice : Choice) (s : ProcessState) where
 
     each_answered : (otherwise : ℕ) (a : Answer) (q : ℕ) → R q (slice_get (answered w e.process s choice otherwise a).world.processes q)
     unfolding answered changed
-    each_answered otherwise (Fails errno cause) q = each_set (failed s errno otherwise) (record { program = refl; marked = refl; mode = λ on. on; kept = λ none. none }) q
+    each_answered otherwise (Fails errno cause) q = each_set (failed s errno otherwise) (record { program = refl; marked = refl; mode = λ on. on; kept = inl refl }) q
     each_answered otherwise Waits q = there q
     each_answered otherwise (Gives value change effects) q =
         let on = still_on s.mode change.enters in
-        each_after (given s value change) (record { program = refl; marked = refl; mode = on; kept = λ none. none })
-        (record { program = refl; marked = refl; mode = on; kept = λ none. refl }) change.table q
-    each_answered otherwise (Walks walking) q = each_set (record s { walk = Some walking }) (record { program = refl; marked = refl; mode = λ on. on; kept = λ none. none }) q
+        each_after (given s value change) (record { program = refl; marked = refl; mode = on; kept = inl refl })
+        (record { program = refl; marked = refl; mode = on; kept = inr refl }) change.table q
+    each_answered otherwise (Walks walking) q = each_set (record s { walk = Some walking }) (record { program = refl; marked = refl; mode = λ on. on; kept = inl refl }) q
 
     each_jumped : (taken : Bool) (target : ℕ) (q : ℕ) → R q (slice_get (slice_set w.processes e.process (jumped s taken target)) q)
     unfolding jumped
-    each_jumped true target q = each_set _ (record { program = refl; marked = refl; mode = λ on. on; kept = λ none. none }) q
-    each_jumped false target q = each_set _ (record { program = refl; marked = refl; mode = λ on. on; kept = λ none. none }) q
+    each_jumped true target q = each_set _ (record { program = refl; marked = refl; mode = λ on. on; kept = inl refl }) q
+    each_jumped false target q = each_set _ (record { program = refl; marked = refl; mode = λ on. on; kept = inl refl }) q
 
     pub each_executed : (i : Instruction) (q : ℕ) → R q (slice_get (executed w e choice s i).world.processes q)
     unfolding executed
-    each_executed (Set r value) q = each_set _ (record { program = refl; marked = refl; mode = λ on. on; kept = λ none. none }) q
-    each_executed (Mov r source) q = each_set _ (record { program = refl; marked = refl; mode = λ on. on; kept = λ none. none }) q
-    each_executed (Add r addend) q = each_set _ (record { program = refl; marked = refl; mode = λ on. on; kept = λ none. none }) q
-    each_executed (In r) q = each_set _ (record { program = refl; marked = refl; mode = λ on. on; kept = λ none. none }) q
-    each_executed (Jmp target) q = each_set _ (record { program = refl; marked = refl; mode = λ on. on; kept = λ none. none }) q
+    each_executed (Set r value) q = each_set _ (record { program = refl; marked = refl; mode = λ on. on; kept = inl refl }) q
+    each_executed (Mov r source) q = each_set _ (record { program = refl; marked = refl; mode = λ on. on; kept = inl refl }) q
+    each_executed (Add r addend) q = each_set _ (record { program = refl; marked = refl; mode = λ on. on; kept = inl refl }) q
+    each_executed (In r) q = each_set _ (record { program = refl; marked = refl; mode = λ on. on; kept = inl refl }) q
+    each_executed (Jmp target) q = each_set _ (record { program = refl; marked = refl; mode = λ on. on; kept = inl refl }) q
     each_executed (Jeq r value target) q = each_jumped _ target q
     each_executed (Jlt r value target) q = each_jumped _ target q
-    each_executed Halt q = each_set (ended s) (record { program = refl; marked = refl; mode = λ on. on; kept = λ none. none }) q
+    each_executed Halt q = each_set (ended s) (record { program = refl; marked = refl; mode = λ on. on; kept = inl refl }) q
     each_executed (Invoke call otherwise) q = each_answered otherwise (answer w e.process s e call) q
 
   -- an instruction has names of a path left, or has come to an end

@@ -4,6 +4,7 @@ pub mod ProcessRows
 pub mod CauseWorlds
 pub mod CauseRows
 pub mod NameCauseRows
+mod UseRows
 pub mod WalkRows
 pub mod Origins
 pub mod Trees
@@ -32,6 +33,7 @@ pub mod Hostile
 mod LateFailures
 pub mod LaterEvents
 pub mod Marks
+pub mod Spoken
 mod DeedRows
 pub mod ChangeRows
 pub mod FirstWorld

@@ -7,12 +7,12 @@ use Rattle.rights.specs.Sets.{all_rights, all_commands}
 use Rattle.rights.proofs.Subsets.{is_within-refl}
 use Rattle.rights.specs.Opens.{OpenRequest}
 use Rattle.file_tree.specs.Nodes.{Kind, File, Dir, Link, node}
-use Rattle.lookup.specs.Answers.{Way, Last, LookupFault, Escape, No_entry, Not_dir, Loop, Too_long, Bad_last, Beneath, Keep, Found_node, Found_free, Not_found}
+use Rattle.lookup.specs.Answers.{Way, Last, LookupFault, Escape, No_entry, Not_dir, Loop, Too_long, Bad_last, Found_node, Found_free, Not_found}
 use Rattle.lookup.specs.Answers as lookups
 use Rattle.lookup.specs.Walks.{first_handled, handled}
 use Rattle.process.specs.State.{ProcessState, Walking, One, Two}
 use Rattle.instruction_set.specs.Programs.{Syscall, Open, Openat, Read, Write, Sendfd, Recvfd, Lseek, Ftruncate, Fsync, Fstat, Fcntl_getfl, Fcntl_setfl, Fstatat, Stat, Mkdirat, Mkdir}
-use Rattle.instruction_set.specs.Programs.{Unlinkat, Unlink, Renameat, Dup, Close, Cap_rights_limit, Cap_fcntls_limit, Cap_enter, Cap_getmode, Socketpair, Fork}
+use Rattle.instruction_set.specs.Programs.{Unlinkat, Unlink, Renameat, Dup, Close, Cap_rights_limit, Cap_fcntls_limit, Cap_enter, Cap_getmode, Socketpair, Fork, Use}
 use Rattle.rights.specs.Sides.{other_side}
 use Rattle.fd_table.specs.Descriptions.{Access, PairClass, Object, At_node, At_end, Descriptor, Message, descriptor_of, IfHeld}
 use Rattle.fd_table.specs.OpenFiles.{lowest_from, lowest_free}
@@ -20,7 +20,7 @@ use Rattle.kernel.specs.World.{World}
 use Rattle.kernel.specs.Answers.{Event, Effect, TableChange, Same_table, Set_entry, Clear_entry, New_file, New_pair, New_process, QueueChange, Same_queue, Push, Pop, Change}
 use Rattle.kernel.specs.Answers.{Answer, Fails, Waits, Gives, Walks, unless, held, at_object, at_number, lookup_fails}
 use Rattle.kernel.specs.Calls.{looks, looks_twice, answer, opened, opened_as, read_byte, read_end, write_node, sent_end, received, receive_end, stats_at, made_directory}
-use Rattle.kernel.specs.Calls.{unlinks_as, unlinks, renamed_over, renamed_to, existing, pair_at, blocked, in_directory, at_file}
+use Rattle.kernel.specs.Calls.{unlinks_as, unlinks, renamed_over, renamed_to, existing, pair_at, blocked, in_directory, at_file, used}
 use Rattle.kernel.proofs.Looking.{any_event, any_one, any_two, fault_any, looks_any, looks_twice_any}
 use Rattle.kernel.specs.Origins.{front_of, arriving_at, arriving, IsNoWider, IsMade, was_opened, was_opened_beneath, was_paired, was_duplicated, was_received}
 use Rattle.kernel.specs.Origins.{was_limited, was_limited_in_commands, IsEndOf, IsEnd, IsSent, by_sendfd}
@@ -219,6 +219,9 @@ module _ (w : World) (p : ℕ) (s : ProcessState) where
     fair-existing call (Found_free d) rest fair = fails call _ _
     fair-existing call (Found_node n) rest fair = fair n
 
+    fair-used : (call : Syscall) (fits : Bool) (effects : List Effect) → Fair call (used w p s e fits effects)
+    fair-used call fits effects = fair-unless call _ _ _ _ (λ _. fair-unless call _ _ _ _ (λ _. gives call _ _ _ tt tt))
+
     -- a descriptor's directory and file
     fair-directory : (call : Syscall) (d : Descriptor) (rest : ℕ → Answer) → ((n : ℕ) → Fair call (rest n)) → Fair call (in_directory w p s e d.description rest)
     fair-directory call d rest fair =
@@ -313,6 +316,9 @@ module _ (w : World) (p : ℕ) (s : ProcessState) where
     fair Cap_enter = gives Cap_enter _ _ _ tt tt
     fair Cap_getmode = gives Cap_getmode _ _ _ tt tt
     fair Socketpair = fair-pair (lowest_free (w.files.table p)) refl
+    fair (Use x right) =
+        fair-unless (Use x right) _ _ _ _ (λ _. fair-held (Use x right) _ _ (λ d is. fair-unless (Use x right) _ _ _ _ (λ _. fair-object (Use x right) _ _ _
+        (λ n access at. fair-used (Use x right) _ _) (λ pair side class at. fair-used (Use x right) _ _))))
     fair Fork = fair-unless Fork _ _ _ _ (λ _. fair-unless Fork _ _ _ _ (λ _. gives Fork _ _ _ refl tt))
 
   -- What a success may change.

@@ -9,7 +9,7 @@ use Rattle.rights.proofs.Tests.{both_left, both_right}
 use Rattle.process.specs.State.{Deed, ProcessState, Walking, ended, forked, left_by, moved_to}
 use Rattle.instruction_set.specs.Programs.{Instruction, Set, Mov, Add, In, Jmp, Jeq, Jlt, Halt, Invoke, Syscall, Open, Openat, Read, Write, Sendfd, Recvfd, Lseek, Ftruncate, Fsync, Fstat}
 use Rattle.instruction_set.specs.Programs.{Fcntl_getfl, Fcntl_setfl, Fstatat, Stat, Mkdirat, Mkdir, Unlinkat, Unlink, Renameat, Dup, Close, Cap_rights_limit, Cap_fcntls_limit, Cap_enter}
-use Rattle.instruction_set.specs.Programs.{Cap_getmode, Socketpair, Fork, is_instruction, is_last, is_operand, is_path, is_syscall, ends_well}
+use Rattle.instruction_set.specs.Programs.{Cap_getmode, Socketpair, Fork, Use, is_instruction, is_last, is_operand, is_path, is_syscall, ends_well}
 use Rattle.kernel.specs.Steps.{Programs}
 use Rattle.kernel.specs.Walks.{are_paths, call_in, lookups_of}
 use Rattle.kernel.specs.WellFormed.{HasPaths, IfKept, IsCode, IsDeed, IsPoint, FitsRegister, IsProcess}
@@ -88,6 +88,7 @@ syscall_paths Cap_enter valid = refl
 syscall_paths Cap_getmode valid = refl
 syscall_paths Socketpair valid = refl
 syscall_paths Fork valid = refl
+syscall_paths (Use x right) valid = refl
 
 pub instruction_paths : (points : ℕ) (i : Instruction) → is_instruction points i ≡ true → HasPaths (call_in (Some i))
 instruction_paths points (Set r value) valid = tt

@@ -7,13 +7,13 @@ use Rattle.rights.specs.Operations.{Read as Reads, Write as Writes}
 use Rattle.rights.specs.Opens.{OpenRequest}
 use Rattle.file_tree.specs.Nodes.{Kind, File, Dir, Link, node}
 use Rattle.file_tree.specs.Changes.{written}
-use Rattle.lookup.specs.Answers.{Way, Last, LookupFault, Escape, No_entry, Not_dir, Loop, Too_long, Bad_last, Beneath, Global, Follow, Keep, Found_node, Found_free, Not_found}
+use Rattle.lookup.specs.Answers.{Way, Last, LookupFault, Escape, No_entry, Not_dir, Loop, Too_long, Bad_last, Beneath, Keep, Found_node, Found_free, Not_found}
 use Rattle.lookup.specs.Answers as lookups
 use Rattle.lookup.specs.Looks.{lookup_fault}
 use Rattle.lookup.specs.Walks.{WalkState, Progress, Done, More, begun, first_handled, handled}
 use Rattle.process.specs.State.{ProcessState, Walking, One, Two}
 use Rattle.instruction_set.specs.Programs.{Syscall, Open, Openat, Read, Write, Sendfd, Recvfd, Lseek, Ftruncate, Fsync, Fstat, Fcntl_getfl, Fcntl_setfl, Fstatat, Stat, Mkdirat, Mkdir}
-use Rattle.instruction_set.specs.Programs.{Unlinkat, Unlink, Renameat, Dup, Close, Cap_rights_limit, Cap_fcntls_limit, Cap_enter, Cap_getmode, Socketpair, Fork}
+use Rattle.instruction_set.specs.Programs.{Unlinkat, Unlink, Renameat, Dup, Close, Cap_rights_limit, Cap_fcntls_limit, Cap_enter, Cap_getmode, Socketpair, Fork, Use}
 use Rattle.rights.specs.Sides.{other_side}
 use Rattle.fd_table.specs.Descriptions.{Access, Object, At_node, At_end, State, Descriptor, Message, status_number, with_status, IfHeld}
 use Rattle.fd_table.specs.OpenFiles.{OpenFiles, is_open, lowest_from, lowest_free}
@@ -427,6 +427,10 @@ module _ (r : Renaming) (w : World) (g : OpenFiles) (alike : SameFiles r w.files
   matches Cap_getmode = given r _ _ _
   matches Socketpair =
       along_path r _ _ _ (ap (pair_at other p s e) (free-same r 16 0 (w.files.table p) (g.table p) (alike.table p))) (both-pair_at (lowest_free (w.files.table p)))
+  matches (Use x right) =
+      both-unless r _ _ _ _ _ (both-entry (value_of s x) _ _ (λ d twin. both-unless r _ _ _ _ _ (both-object d twin _ _ _ _
+      (λ n access. both-unless r _ _ _ _ _ (both-unless r _ _ _ _ _ (given r _ _ _)))
+      (λ pair side. both-unless r _ _ _ _ _ (both-unless r _ _ _ _ _ (given r _ _ _))))))
   matches Fork = both-unless r _ _ _ _ _ (both-unless r _ _ _ _ _ (given r _ _ _))
 
   pub same_answer : (call : Syscall) → answer other p s e call ≡ renamed_answer r (answer w p s e call)

@@ -14,7 +14,7 @@ use Rattle.lookup.specs.Looks.{lookup_fault}
 use Rattle.lookup.specs.Walks.{first_handled, handled}
 use Rattle.process.specs.State.{new_process}
 use Rattle.instruction_set.specs.Forms.{written_at, syscall_at, register_at, number_at, operand_at, path_at, flags_at, rights_at, commands_at, label_at, directory_at, else_at}
-use Rattle.instruction_set.specs.Assembly.{assembly_of, line_read}
+use Rattle.instruction_set.specs.Assembly.{assembly_in, assembly_of, line_read}
 use Rattle.fd_table.specs.Descriptions.{Object}
 use Rattle.fd_table.specs.OpenFiles.{any_below, lowest_from}
 use Rattle.kernel.specs.World.{World}
@@ -76,7 +76,7 @@ walks n = repeated n (codes "0 main:0 walk\n")
 takes_an_event_for_each_name : shown (codes "openat 0 \"out/d/../f\" read else e\ne: halt\n") moves_d
     (from_work deepest) (0 ∷ 0 ∷ 0 ∷ 0 ∷ []) ≡
     walks 3 ++ codes "0 main:0 = 1\n"
-unfolding assembly_of line_read written_at syscall_at register_at number_at operand_at path_at flags_at rights_at commands_at label_at directory_at
+unfolding assembly_in line_read written_at syscall_at register_at number_at operand_at path_at flags_at rights_at commands_at label_at directory_at
     else_at ℕ_discrete digits base created removed filled first_handled handled looks looks_twice lookup_fault path_fault path_components
     last_component by_nodes node_at child_of parent_of unless held at_object at_number any_below lowest_from answer files_after changed answered
     jumped executed stepped_at stepped_by stepped step deeper deepest
@@ -86,7 +86,7 @@ takes_an_event_for_each_name = refl
 does_not_go_back_from_a_moved_directory : shown (codes "openat 0 \"out/d/../f\" read else e\ne: halt\n") moves_d
     (from_work deepest) (0 ∷ 0 ∷ 1 ∷ 0 ∷ []) ≡
     walks 2 ++ d_moved ++ codes "0 main:0 ! ENOTCAPABLE Escape\n"
-unfolding assembly_of line_read written_at syscall_at register_at number_at operand_at path_at flags_at rights_at commands_at label_at directory_at
+unfolding assembly_in line_read written_at syscall_at register_at number_at operand_at path_at flags_at rights_at commands_at label_at directory_at
     else_at ℕ_discrete digits base created removed filled first_handled handled looks looks_twice lookup_fault path_fault path_components
     last_component by_nodes node_at child_of parent_of unless held at_object at_number any_below lowest_from answer files_after changed answered
     jumped executed stepped_at stepped_by stepped step deeper deepest
@@ -96,7 +96,7 @@ does_not_go_back_from_a_moved_directory = refl
 goes_on_in_a_moved_directory : shown (codes "openat 0 \"out/d/g\" read else e\nread 1 else e\ne: halt\n") moves_d
     (from_work deepest) (0 ∷ 0 ∷ 1 ∷ 0 ∷ 0 ∷ []) ≡
     walks 2 ++ d_moved ++ codes "0 main:0 = 1\n0 main:1 = 90 read /work/alt/d/g\n"
-unfolding assembly_of line_read written_at syscall_at register_at number_at operand_at path_at flags_at rights_at commands_at label_at directory_at
+unfolding assembly_in line_read written_at syscall_at register_at number_at operand_at path_at flags_at rights_at commands_at label_at directory_at
     else_at ℕ_discrete digits base created removed filled first_handled handled looks looks_twice lookup_fault path_fault path_components
     last_component by_nodes node_at child_of parent_of unless held at_object at_number any_below lowest_from answer files_after changed answered
     jumped executed stepped_at stepped_by stepped step deeper deepest
@@ -106,7 +106,7 @@ goes_on_in_a_moved_directory = refl
 does_not_go_back_from_a_removed_directory : shown (codes "openat 0 \"out/d/../f\" read else e\ne: halt\n") removes_d
     (from_work deeper) (0 ∷ 0 ∷ 1 ∷ 0 ∷ []) ≡
     walks 2 ++ d_removed ++ codes "0 main:0 ! ENOENT Path\n"
-unfolding assembly_of line_read written_at syscall_at register_at number_at operand_at path_at flags_at rights_at commands_at label_at directory_at
+unfolding assembly_in line_read written_at syscall_at register_at number_at operand_at path_at flags_at rights_at commands_at label_at directory_at
     else_at ℕ_discrete digits base created removed filled first_handled handled looks looks_twice lookup_fault path_fault path_components
     last_component by_nodes node_at child_of parent_of unless held at_object at_number any_below lowest_from answer files_after changed answered
     jumped executed stepped_at stepped_by stepped step deeper deepest
@@ -115,7 +115,7 @@ does_not_go_back_from_a_removed_directory = refl
 does_not_stay_in_a_removed_directory : shown (codes "openat 0 \"out/d/.\" read else e\ne: halt\n") removes_d
     (from_work deeper) (0 ∷ 0 ∷ 1 ∷ 0 ∷ []) ≡
     walks 2 ++ d_removed ++ codes "0 main:0 ! ENOENT Path\n"
-unfolding assembly_of line_read written_at syscall_at register_at number_at operand_at path_at flags_at rights_at commands_at label_at directory_at
+unfolding assembly_in line_read written_at syscall_at register_at number_at operand_at path_at flags_at rights_at commands_at label_at directory_at
     else_at ℕ_discrete digits base created removed filled first_handled handled looks looks_twice lookup_fault path_fault path_components
     last_component by_nodes node_at child_of parent_of unless held at_object at_number any_below lowest_from answer files_after changed answered
     jumped executed stepped_at stepped_by stepped step deeper deepest
@@ -125,7 +125,7 @@ does_not_stay_in_a_removed_directory = refl
 is_lost_in_a_moved_directory : shown (codes "open \"/work/out/d/../f\" read else e\ne: halt\n") moves_d
     (from_work deepest) (0 ∷ 0 ∷ 0 ∷ 1 ∷ 0 ∷ []) ≡
     walks 3 ++ d_moved ++ codes "0 main:0 ! ENOENT Path\n"
-unfolding assembly_of line_read written_at syscall_at register_at number_at operand_at path_at flags_at rights_at commands_at label_at directory_at
+unfolding assembly_in line_read written_at syscall_at register_at number_at operand_at path_at flags_at rights_at commands_at label_at directory_at
     else_at ℕ_discrete digits base created removed filled first_handled handled looks looks_twice lookup_fault path_fault path_components
     last_component by_nodes node_at child_of parent_of unless held at_object at_number any_below lowest_from answer files_after changed answered
     jumped executed stepped_at stepped_by stepped step deeper deepest
@@ -135,7 +135,7 @@ is_lost_in_a_moved_directory = refl
 finds_no_directory_in_a_removed_file : shown (codes "openat 0 \"out/f/x\" read else e\ne: halt\n") (codes "unlinkat 0 \"f\" else e\ne: halt\n")
     (from_work deeper) (0 ∷ 0 ∷ 1 ∷ 0 ∷ []) ≡
     walks 2 ++ codes "1 mover:0 = 0 remove /work/out/f\n0 main:0 ! ENOTDIR Path\n"
-unfolding assembly_of line_read written_at syscall_at register_at number_at operand_at path_at flags_at rights_at commands_at label_at directory_at
+unfolding assembly_in line_read written_at syscall_at register_at number_at operand_at path_at flags_at rights_at commands_at label_at directory_at
     else_at ℕ_discrete digits base created removed filled first_handled handled looks looks_twice lookup_fault path_fault path_components
     last_component by_nodes node_at child_of parent_of unless held at_object at_number any_below lowest_from answer files_after changed answered
     jumped executed stepped_at stepped_by stepped step deeper deepest
@@ -145,7 +145,7 @@ finds_no_directory_in_a_removed_file = refl
 walks_beside_another : shown (codes "openat 0 \"out/d/g\" read else e\ne: halt\n") (codes "openat 0 \"d/g\" read else e\ne: halt\n")
     (from_work deepest) (0 ∷ 1 ∷ 0 ∷ 1 ∷ 0 ∷ []) ≡
     codes "0 main:0 walk\n1 mover:0 walk\n0 main:0 walk\n1 mover:0 = 2\n0 main:0 = 1\n"
-unfolding assembly_of line_read written_at syscall_at register_at number_at operand_at path_at flags_at rights_at commands_at label_at directory_at
+unfolding assembly_in line_read written_at syscall_at register_at number_at operand_at path_at flags_at rights_at commands_at label_at directory_at
     else_at ℕ_discrete digits base created removed filled first_handled handled looks looks_twice lookup_fault path_fault path_components
     last_component by_nodes node_at child_of parent_of unless held at_object at_number any_below lowest_from answer files_after changed answered
     jumped executed stepped_at stepped_by stepped step deeper deepest
@@ -155,7 +155,7 @@ walks_beside_another = refl
 goes_on_where_another_closes : trace (programs_of (code_of (assembly_of (codes "fork else e\njeq r0 0 c\nopenat 0 \"out/f\" read else e\nhalt\nc: close 0 else e\ne: halt\n")) ∷ []))
     (alone deeper []) 0 (turns (0 ∷ 0 ∷ 0 ∷ 1 ∷ 1 ∷ 0 ∷ [])) ≡
     codes "0 main:0 = 1\n0 main:1 ok\n0 main:2 walk\n1 main:1 ok\n1 main:4 = 0\n0 main:2 = 2\n"
-unfolding assembly_of line_read written_at syscall_at register_at number_at operand_at path_at flags_at rights_at commands_at label_at directory_at
+unfolding assembly_in line_read written_at syscall_at register_at number_at operand_at path_at flags_at rights_at commands_at label_at directory_at
     else_at ℕ_discrete digits base created removed filled first_handled handled looks looks_twice lookup_fault path_fault path_components
     last_component by_nodes node_at child_of parent_of unless held at_object at_number any_below lowest_from answer files_after changed answered
     jumped executed stepped_at stepped_by stepped step deeper deepest
@@ -175,7 +175,7 @@ out_moved = codes "1 mover:0 = 0 remove /work/out create /work/alt/out\n"
 goes_on_from_a_moved_start : shown (codes "openat 0 \"d/../f\" read else e\nread 1 else e\ne: halt\n") moves_out
     from_out (0 ∷ 1 ∷ 0 ∷ 0 ∷ 0 ∷ []) ≡
     walks 1 ++ out_moved ++ walks 1 ++ codes "0 main:0 = 1\n0 main:1 = 256 read /work/alt/out/f\n"
-unfolding assembly_of line_read written_at syscall_at register_at number_at operand_at path_at flags_at rights_at commands_at label_at directory_at
+unfolding assembly_in line_read written_at syscall_at register_at number_at operand_at path_at flags_at rights_at commands_at label_at directory_at
     else_at ℕ_discrete digits base created removed filled first_handled handled looks looks_twice lookup_fault path_fault path_components
     last_component by_nodes node_at child_of parent_of unless held at_object at_number any_below lowest_from answer files_after changed answered
     jumped executed stepped_at stepped_by stepped step deeper deepest
@@ -184,7 +184,7 @@ goes_on_from_a_moved_start = refl
 escapes_from_a_moved_start : shown (codes "openat 0 \"d/../../alt\" read else e\ne: halt\n") moves_out
     from_out (0 ∷ 1 ∷ 0 ∷ 0 ∷ []) ≡
     walks 1 ++ out_moved ++ walks 1 ++ codes "0 main:0 ! ENOTCAPABLE Escape\n"
-unfolding assembly_of line_read written_at syscall_at register_at number_at operand_at path_at flags_at rights_at commands_at label_at directory_at
+unfolding assembly_in line_read written_at syscall_at register_at number_at operand_at path_at flags_at rights_at commands_at label_at directory_at
     else_at ℕ_discrete digits base created removed filled first_handled handled looks looks_twice lookup_fault path_fault path_components
     last_component by_nodes node_at child_of parent_of unless held at_object at_number any_below lowest_from answer files_after changed answered
     jumped executed stepped_at stepped_by stepped step deeper deepest
@@ -194,7 +194,7 @@ escapes_from_a_moved_start = refl
 takes_one_event_for_the_root : trace (programs_of (code_of (assembly_of (codes "stat \"/\" else e\nstat \"/root\" else e\ne: halt\n")) ∷ []))
     (alone (created base 0 (codes "root") Link (codes "/")) []) 0 (times 2) ≡
     codes "0 main:0 = 2 look /\n0 main:1 = 2 look /\n"
-unfolding assembly_of line_read written_at syscall_at register_at number_at operand_at path_at flags_at rights_at commands_at label_at directory_at
+unfolding assembly_in line_read written_at syscall_at register_at number_at operand_at path_at flags_at rights_at commands_at label_at directory_at
     else_at ℕ_discrete digits base created removed filled first_handled handled looks looks_twice lookup_fault path_fault path_components
     last_component by_nodes node_at child_of parent_of unless held at_object at_number any_below lowest_from answer files_after changed answered
     jumped executed stepped_at stepped_by stepped step deeper deepest
@@ -203,7 +203,7 @@ takes_one_event_for_the_root = refl
 -- the kernel refuses in the last event of a call alone
 is_not_refused_halfway : trace (programs_of (code_of (assembly_of (codes "openat 0 \"out/f\" read else e\ne: halt\n")) ∷ [])) (alone deeper []) 0 (refused ∷ times 1) ≡
     walks 1 ++ codes "0 main:0 = 2\n"
-unfolding assembly_of line_read written_at syscall_at register_at number_at operand_at path_at flags_at rights_at commands_at label_at directory_at
+unfolding assembly_in line_read written_at syscall_at register_at number_at operand_at path_at flags_at rights_at commands_at label_at directory_at
     else_at ℕ_discrete digits base created removed filled first_handled handled looks looks_twice lookup_fault path_fault path_components
     last_component by_nodes node_at child_of parent_of unless held at_object at_number any_below lowest_from answer files_after changed answered
     jumped executed stepped_at stepped_by stepped step deeper deepest
@@ -211,7 +211,7 @@ is_not_refused_halfway = refl
 
 is_refused_at_the_end : trace (programs_of (code_of (assembly_of (codes "openat 0 \"out/f\" read else e\ne: halt\n")) ∷ [])) (alone deeper []) 0 (times 1 ++ refused ∷ []) ≡
     walks 1 ++ codes "0 main:0 ! ENFILE Refused\n"
-unfolding assembly_of line_read written_at syscall_at register_at number_at operand_at path_at flags_at rights_at commands_at label_at directory_at
+unfolding assembly_in line_read written_at syscall_at register_at number_at operand_at path_at flags_at rights_at commands_at label_at directory_at
     else_at ℕ_discrete digits base created removed filled first_handled handled looks looks_twice lookup_fault path_fault path_components
     last_component by_nodes node_at child_of parent_of unless held at_object at_number any_below lowest_from answer files_after changed answered
     jumped executed stepped_at stepped_by stepped step deeper deepest
@@ -229,7 +229,7 @@ chained (suc n) = created (chained n) 1 (codes "c" ++ decimal (suc n)) Link (cha
 -- links count over the whole lookup, 32 of them, also where it goes back between
 follows_32_links_there_and_back : trace (programs_of (code_of (assembly_of (codes "openat 0 \"c16/../c16\" read else e\ne: halt\n")) ∷ [])) (alone (chained 17) []) 0 (times 35) ≡
     walks 34 ++ codes "0 main:0 = 2\n"
-unfolding assembly_of line_read written_at syscall_at register_at number_at operand_at path_at flags_at rights_at commands_at label_at directory_at
+unfolding assembly_in line_read written_at syscall_at register_at number_at operand_at path_at flags_at rights_at commands_at label_at directory_at
     else_at ℕ_discrete digits base created removed filled first_handled handled looks looks_twice lookup_fault path_fault path_components
     last_component by_nodes node_at child_of parent_of unless held at_object at_number any_below lowest_from answer files_after changed answered
     jumped executed stepped_at stepped_by stepped step deeper deepest chained
@@ -237,7 +237,7 @@ follows_32_links_there_and_back = refl
 
 follows_no_33_links_there_and_back : trace (programs_of (code_of (assembly_of (codes "openat 0 \"c17/../c16\" read else e\ne: halt\n")) ∷ [])) (alone (chained 17) []) 0 (times 35) ≡
     walks 34 ++ codes "0 main:0 ! ELOOP Path\n"
-unfolding assembly_of line_read written_at syscall_at register_at number_at operand_at path_at flags_at rights_at commands_at label_at directory_at
+unfolding assembly_in line_read written_at syscall_at register_at number_at operand_at path_at flags_at rights_at commands_at label_at directory_at
     else_at ℕ_discrete digits base created removed filled first_handled handled looks looks_twice lookup_fault path_fault path_components
     last_component by_nodes node_at child_of parent_of unless held at_object at_number any_below lowest_from answer files_after changed answered
     jumped executed stepped_at stepped_by stepped step deeper deepest chained
@@ -246,7 +246,7 @@ follows_no_33_links_there_and_back = refl
 -- A rename takes an event for each name but the last ones, of the old path first, and one for both last names.
 renames_by_both_paths : trace (programs_of (code_of (assembly_of (codes "renameat 0 \"out/d/g\" 0 \"alt/h\" else e\ne: halt\n")) ∷ [])) (alone deepest []) 0 (times 4) ≡
     walks 3 ++ codes "0 main:0 = 0 remove /work/out/d/g create /work/alt/h\n"
-unfolding assembly_of line_read written_at syscall_at register_at number_at operand_at path_at flags_at rights_at commands_at label_at directory_at
+unfolding assembly_in line_read written_at syscall_at register_at number_at operand_at path_at flags_at rights_at commands_at label_at directory_at
     else_at ℕ_discrete digits base created removed filled first_handled handled looks looks_twice lookup_fault path_fault path_components
     last_component by_nodes node_at child_of parent_of unless held at_object at_number any_below lowest_from answer files_after changed answered
     jumped executed stepped_at stepped_by stepped step deeper deepest
@@ -254,7 +254,7 @@ renames_by_both_paths = refl
 
 walks_the_old_path_first : trace (programs_of (code_of (assembly_of (codes "renameat 0 \"in/x/y\" 0 \"nope/z\" else e\ne: halt\n")) ∷ [])) (alone deeper []) 0 (times 2) ≡
     walks 1 ++ codes "0 main:0 ! ENOTDIR Path\n"
-unfolding assembly_of line_read written_at syscall_at register_at number_at operand_at path_at flags_at rights_at commands_at label_at directory_at
+unfolding assembly_in line_read written_at syscall_at register_at number_at operand_at path_at flags_at rights_at commands_at label_at directory_at
     else_at ℕ_discrete digits base created removed filled first_handled handled looks looks_twice lookup_fault path_fault path_components
     last_component by_nodes node_at child_of parent_of unless held at_object at_number any_below lowest_from answer files_after changed answered
     jumped executed stepped_at stepped_by stepped step deeper deepest
@@ -263,7 +263,7 @@ walks_the_old_path_first = refl
 -- what is wrong with either text is told in the first event, before a name that is absent
 asks_both_texts_first : trace (programs_of (code_of (assembly_of (codes "renameat 0 \"nope\" 0 \"..\" else e\ne: halt\n")) ∷ [])) (alone deeper []) 0 (times 1) ≡
     codes "0 main:0 ! EINVAL Path\n"
-unfolding assembly_of line_read written_at syscall_at register_at number_at operand_at path_at flags_at rights_at commands_at label_at directory_at
+unfolding assembly_in line_read written_at syscall_at register_at number_at operand_at path_at flags_at rights_at commands_at label_at directory_at
     else_at ℕ_discrete digits base created removed filled first_handled handled looks looks_twice lookup_fault path_fault path_components
     last_component by_nodes node_at child_of parent_of unless held at_object at_number any_below lowest_from answer files_after changed answered
     jumped executed stepped_at stepped_by stepped step deeper deepest
@@ -283,7 +283,7 @@ alt_removed = codes "1 mover:0 = 0 remove /work/alt\n"
 renames_into_no_removed_directory : shown (codes "renameat 0 \"out/f\" 1 \"y\" else e\ne: halt\n") removes_alt
     to_alt (0 ∷ 1 ∷ 0 ∷ []) ≡
     walks 1 ++ alt_removed ++ codes "0 main:0 ! ENOENT Path\n"
-unfolding assembly_of line_read written_at syscall_at register_at number_at operand_at path_at flags_at rights_at commands_at label_at directory_at
+unfolding assembly_in line_read written_at syscall_at register_at number_at operand_at path_at flags_at rights_at commands_at label_at directory_at
     else_at ℕ_discrete digits base created removed filled first_handled handled looks looks_twice lookup_fault path_fault path_components
     last_component by_nodes node_at child_of parent_of unless held at_object at_number any_below lowest_from answer files_after changed answered
     jumped executed stepped_at stepped_by stepped step deeper deepest
@@ -292,7 +292,7 @@ renames_into_no_removed_directory = refl
 asks_the_old_name_before_the_new_directory : shown (codes "renameat 0 \"in/x\" 1 \"y\" else e\ne: halt\n") removes_alt
     to_alt (0 ∷ 1 ∷ 0 ∷ []) ≡
     walks 1 ++ alt_removed ++ codes "0 main:0 ! ENOTDIR Path\n"
-unfolding assembly_of line_read written_at syscall_at register_at number_at operand_at path_at flags_at rights_at commands_at label_at directory_at
+unfolding assembly_in line_read written_at syscall_at register_at number_at operand_at path_at flags_at rights_at commands_at label_at directory_at
     else_at ℕ_discrete digits base created removed filled first_handled handled looks looks_twice lookup_fault path_fault path_components
     last_component by_nodes node_at child_of parent_of unless held at_object at_number any_below lowest_from answer files_after changed answered
     jumped executed stepped_at stepped_by stepped step deeper deepest

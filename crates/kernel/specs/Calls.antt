@@ -1,15 +1,16 @@
 -- What each system call answers: its tests in the order in which they are asked, and what a success
 -- gives, changes and does. An error sets r7 and has no change; a call that waits changes nothing.
-use Rattle.std.specs.Prelude.{ℕ, ◌+◌, ◌-◌, ◌%◌, ◌==◌, Bool, true, false, ◌&&◌, ◌||◌, not, nat_eq, nat_lt, nat_le, List, [], ◌∷◌, length, Option, Some, None, if◌then◌else◌}
+use Rattle.std.specs.Prelude.{ℕ, ◌+◌, ◌-◌, ◌%◌, ◌==◌, Bool, true, false, ◌&&◌, ◌||◌, not, bit_or, nat_eq, nat_lt, nat_le, List, [], ◌∷◌, length, Option, Some, None, if◌then◌else◌}
 use Rattle.std.specs.List.{slice_get}
 use Rattle.rights.specs.Values.{Place, PathText, Content, NodeNumber, DescriptionNumber, DescriptorNumber, PairNumber, SideNumber, RightSet, CommandSet}
 use Rattle.rights.specs.Sets.{is_within, all_rights, all_commands, getfl_command, setfl_command}
 use Rattle.rights.specs.Needs.{First, Second, needs_of}
 use Rattle.rights.specs.Opens.{OpenRequest, no_request}
 use Rattle.rights.specs.Errors.{Errno, EPERM, ENOENT, EBADF, EEXIST, ENOTDIR, EISDIR, EINVAL, ENFILE, EMFILE, EFBIG, ENOSPC, EPIPE, EAGAIN, ENOTSOCK, ELOOP, ENOTEMPTY, ENOTCAPABLE}
-use Rattle.rights.specs.Errors.{ECAPMODE, Cause, CapMode, MissingRight, Path, Full, Refused}
+use Rattle.rights.specs.Errors.{ECAPMODE, CapMode, MissingRight, Path, Full, Refused}
 use Rattle.rights.specs.Errors as errors
-use Rattle.rights.specs.Operations.{Look, Read as Reads, Write as Writes, Create as Creates, Remove as Removes}
+use Rattle.rights.specs.Uses.{acts_beneath, companions_of, operation_of_use, reaches_globally}
+use Rattle.rights.specs.Operations.{Operation, Look, Read as Reads, Write as Writes, Create as Creates, Remove as Removes}
 use Rattle.file_tree.specs.Places.{begins, at_name}
 use Rattle.file_tree.specs.Nodes.{Kind, File, Dir, Link, Node, node, is_dir, is_file, has_below}
 use Rattle.rights.specs.Limits.{most_nodes, most_bytes, most_messages, most_processes, most_descriptors}
@@ -21,7 +22,7 @@ use Rattle.lookup.specs.Looks.{lookup_fault}
 use Rattle.lookup.specs.Walks.{WalkState, Progress, Done, More, begun, first_handled, handled}
 use Rattle.process.specs.State.{ProcessState, Walking, One, Two}
 use Rattle.instruction_set.specs.Programs.{Operand, Syscall, Open, Openat, Read, Write, Sendfd, Recvfd, Lseek, Ftruncate, Fsync, Fstat, Fcntl_getfl, Fcntl_setfl, Fstatat, Stat, Mkdirat}
-use Rattle.instruction_set.specs.Programs.{Mkdir, Unlinkat, Unlink, Renameat, Dup, Close, Cap_rights_limit, Cap_fcntls_limit, Cap_enter, Cap_getmode, Socketpair, Fork, called}
+use Rattle.instruction_set.specs.Programs.{Mkdir, Unlinkat, Unlink, Renameat, Dup, Close, Cap_rights_limit, Cap_fcntls_limit, Cap_enter, Cap_getmode, Socketpair, Fork, Use, called}
 use Rattle.rights.specs.Sides.{other_side}
 use Rattle.fd_table.specs.Descriptions.{Access, PairClass, Made_at, Made_by, State, Descriptor, Message, bit_of, status_number, with_status}
 use Rattle.fd_table.specs.OpenFiles.{is_open, lowest_from, lowest_free}
@@ -81,6 +82,14 @@ or_fails (Some fault) rest = lookup_fails fault
 -- A lookup ends before its last name by a fault alone.
 abbrev pub lost : lookups.Finding → Answer
 lost finding = existing finding (λ n. Fails ENOENT Path)
+
+-- what a call that needs a further right does at a place
+abbrev pub effects_by : Option Operation → Place → List Effect
+effects_by None place = []
+effects_by (Some operation) place = does operation place
+
+abbrev pub effects_of_use : RightSet → Place → List Effect
+effects_of_use right place = effects_by (operation_of_use right) place
 
 -- whether one name is left, the last one
 abbrev pub is_at_last : WalkState → Bool
@@ -337,6 +346,11 @@ module _ (w : World) (p : ℕ) (s : ProcessState) (e : Event) where
       at_number (lowest_from (most_descriptors - 1 - first) (first + 1) (w.files.table p)) (λ second.
       unrefused ENFILE (Gives first (record same { table = New_pair first second (own_class s) }) []))
 
+  -- ## use: each call that needs a further right (rights(4); that it changes nothing here is own)
+  -- through a directory, where it acts beneath one
+  abbrev pub used : Bool → List Effect → Answer
+  used fits effects = unless fits ENOTDIR errors.Kind (unrefused EAGAIN (Gives 0 same effects))
+
   -- ## The calls
   unfoldable pub answer : Syscall → Answer
   answer (Open path f) = outside_mode (looks 0 Global path (last_if f.create) (opened f all_rights all_commands path))
@@ -416,3 +430,9 @@ module _ (w : World) (p : ℕ) (s : ProcessState) (e : Event) where
   answer Fork =
       unless (nat_lt (length w.processes) most_processes) EAGAIN Full
       (unrefused EAGAIN (Gives (length w.processes) (record same { table = New_process }) []))
+  answer (Use x right) =
+      unless (not (s.mode && reaches_globally right)) ECAPMODE CapMode
+      (through (bit_or (companions_of right) right) (entry x) (λ d.
+      at_object (w.files.objects d.description)
+      (λ n access. used (not (acts_beneath right) || is_dir (at n).kind) (effects_of_use right (at n).place))
+      (λ pair side. used (not (acts_beneath right)) [])))

@@ -3,10 +3,10 @@
 use Rattle.std.specs.Prelude.{ℕ, Bool, true, false, List, [], ◌∷◌, map, Option, Some, None}
 use Rattle.rights.specs.Maps.{put2}
 use Rattle.rights.specs.Opens.{open_request}
-use Rattle.rights.specs.Sets.{all_rights, all_commands, read_right}
+use Rattle.rights.specs.Sets.{all_rights, all_commands, further_right, read_right}
 use Rattle.process.specs.State.{new_process}
 use Rattle.instruction_set.specs.Programs.{Syscall, Number, Open, Openat, Read, Write, Sendfd, Recvfd, Lseek, Ftruncate, Fsync, Fstat, Fcntl_getfl, Fcntl_setfl, Fstatat, Stat, Mkdirat}
-use Rattle.instruction_set.specs.Programs.{Mkdir, Unlinkat, Unlink, Renameat, Dup, Close, Cap_rights_limit, Cap_fcntls_limit, Cap_enter, Cap_getmode, Fork, Set, Halt, Invoke}
+use Rattle.instruction_set.specs.Programs.{Mkdir, Unlinkat, Unlink, Renameat, Dup, Close, Cap_rights_limit, Cap_fcntls_limit, Cap_enter, Cap_getmode, Fork, Use, Set, Halt, Invoke}
 use Rattle.fd_table.specs.Descriptions.{Initial, At_node, At_end, Descriptor, Message, descriptor_of, message_of, new_state}
 use Rattle.kernel.specs.World.{World}
 use Rattle.kernel.specs.Answers.{Event}
@@ -58,7 +58,8 @@ calls_that_make_none =
     Read (Number 0) ∷ Write (Number 0) (Number 0) ∷ sends ∷ Lseek (Number 0) (Number 0) ∷ Ftruncate (Number 0) (Number 0)
     ∷ Fsync (Number 0) ∷ Fstat (Number 0) ∷ Fcntl_getfl (Number 0) ∷ Fcntl_setfl (Number 0) (Number 0) ∷ Fstatat (Number 0) []
     ∷ Stat [] ∷ Mkdirat (Number 0) [] ∷ Mkdir [] ∷ Unlinkat (Number 0) [] false ∷ Unlink [] false
-    ∷ Renameat (Number 0) [] (Number 0) [] ∷ Close (Number 0) ∷ Cap_enter ∷ Cap_getmode ∷ Fork ∷ []
+    ∷ Renameat (Number 0) [] (Number 0) [] ∷ Close (Number 0) ∷ Cap_enter ∷ Cap_getmode ∷ Fork
+    ∷ Use (Number 0) (further_right 4) ∷ []
 
 -- a world with a descriptor at (p, n), with messages of end (0, 0), and with other processes
 abbrev pub with_held : World → ℕ → ℕ → Descriptor → World
@@ -130,7 +131,7 @@ pub record NothingComesFromElsewhere : Type 0 where
   pub no_open_in_the_mode : GainsNothing two_processes 1 (Some (second true opens)) (with_at 1 1 wide) → ⊥
   pub no_open_of_other_rights : GainsNothing two_processes 1 (Some (second false opens)) (with_at 1 1 (record wide { rights = read_right })) → ⊥
   pub no_open_of_other_commands : GainsNothing two_processes 1 (Some (second false opens)) (with_at 1 1 (record wide { fcntls = 0 })) → ⊥
-  -- the twenty calls that make no descriptor of their process make none, `fork` among them
+  -- the twenty-one calls that make no descriptor of their process make none, `fork` among them
   pub no_making : NoneMakes calls_that_make_none
   -- what is received has no more than what the front message carries that the other end has sent, through an end that is open
   pub no_wider_receive : GainsNothing (receiving 1) 1 (Some (second false receives)) (with_held (receiving 1) 1 1 wide) → ⊥

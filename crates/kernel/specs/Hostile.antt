@@ -1,7 +1,8 @@
 -- Steps in which a process of an untrusted program does anything that it likes. (own)
-use Rattle.std.specs.Prelude.{◌≡◌, ℕ, true, List, [], ◌∷◌, Option, Some, None}
+use Rattle.std.specs.Prelude.{◌≡◌, Bool, true, List, [], ◌∷◌, Option, Some, None}
 use Rattle.std.specs.List.{slice_get}
 use Rattle.rights.specs.Values.{ProcessNumber}
+use Rattle.instruction_set.specs.Languages.{is_spoken}
 use Rattle.process.specs.State.{Deed, ProcessState, is_hostile}
 use Rattle.kernel.specs.World.{World, Choice, IsFresh}
 use Rattle.kernel.specs.Answers.{Event, IsEvent}
@@ -37,6 +38,11 @@ IsDeedOf programs (Some s) deed = is_hostile s ≡ true → IsDeed programs s.pr
 abbrev pub IsAct : Programs → World → ProcessNumber → Act → Type 0
 IsAct programs w p Own = Unit {0}
 IsAct programs w p (Does deed) = IsDeedOf programs (slice_get w.processes p) deed
+
+-- What is done is of a language, the wide one or the other.
+abbrev pub IsSpoken : Bool → Act → Type 0
+IsSpoken wide Own = Unit {0}
+IsSpoken wide (Does deed) = is_spoken wide deed.instruction ≡ true
 
 -- ## What holds of them as of other steps
 -- There is a next world, and each is well formed and between two steps.

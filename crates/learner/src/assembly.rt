@@ -40,7 +40,7 @@ fn add_path(page: &mut Page, path: &[u8]) -> bool {
     is_writable(path)
 }
 
-/// Adds what a call is given in a place. Whether assembly can have it is told.
+/// Adds what a call is given in a place. Whether the assembly of a task that asks for no further rights can have it is told.
 fn add_operand(page: &mut Page, table: &Table, call: Call, at: usize, operand: &Operand) -> bool {
     match operand {
         Operand::Number(number) => return add_number(page, table, call, at, *number),
@@ -49,9 +49,10 @@ fn add_operand(page: &mut Page, table: &Table, call: Call, at: usize, operand: &
             page.bytes(b" ");
             add_flags(page, *flags);
         }
+        Operand::Rights(_) if call == Call::Use => return false,
         Operand::Rights(rights) => {
             page.bytes(b" ");
-            add_rights(page, *rights);
+            add_rights(page, rights.asked(false));
         }
         Operand::Commands(commands) => {
             page.bytes(b" ");

@@ -11,7 +11,7 @@ use crate::libraries::library_of;
 use crate::places::{above, path_from};
 use crate::room::Room;
 use crate::trees::Tree;
-use call_facts::sets::read_rights;
+use call_facts::sets::read_plain_rights;
 use call_facts::{Scope, beneath, scope_of};
 use records::{Entry, Event, LeftOut, MadeCall, Reason};
 use rights::need_table::{Position, command_needed, needs};
@@ -357,7 +357,7 @@ impl Demands {
         let handle = course.handles.position_at(process, wanted.descriptor, at);
         let mut demand = Demand::nothing();
         if left_out.reason != Reason::Global {
-            demand.rights = read_rights(&wanted.right);
+            demand.rights = read_plain_rights(&wanted.right);
             demand.further = FurtherRights::named(&wanted.right);
         }
         demand.is_used = true;

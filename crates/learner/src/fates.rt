@@ -5,7 +5,7 @@ use crate::further::FurtherRights;
 use crate::policies::Account;
 use crate::room::Room;
 use crate::trees::Tree;
-use call_facts::sets::read_rights;
+use call_facts::sets::read_plain_rights;
 use call_facts::{TableChange, table_change};
 use records::{Entry, Event, LeftOut, MadeCall, Reason, WantedRight};
 use rights::Rights;
@@ -130,7 +130,7 @@ fn fate_of_wanting(
     at: usize,
 ) -> Fate {
     let further = FurtherRights::named(&wanted.right);
-    if further.is_empty() && read_rights(&wanted.right) == Rights::empty() {
+    if further.is_empty() && read_plain_rights(&wanted.right) == Rights::empty() {
         return Fate::NotKnown;
     }
     match told

@@ -55,6 +55,8 @@ pub struct MatrixRow {
     pub cells: [Cell; RIGHTS],
     /// How many are used, in words.
     pub count: Vec<u8>,
+    /// The further rights, in words; empty where there is nothing to tell of them.
+    pub further: Vec<u8>,
     pub tone: Tone,
 }
 
@@ -113,6 +115,10 @@ fn add_row(html: &mut Html, row: &MatrixRow) {
     html.fill(
         "<td class=\"v\"><span class=\"@\">@</span></td></tr>\n",
         &parts,
+    );
+    html.show_some(
+        "<tr class=\"r\"><td></td><td class=\"v\" colspan=\"15\">further rights: @</td></tr>\n",
+        &row.further,
     )
 }
 

@@ -6,7 +6,7 @@ use Rattle.prog_asm.specs.declared.drafts.Draft.{Draft}
 use Rattle.prog_asm.specs.declared.faults.LineFault.{LineFault as LineFaultCode}
 use Rattle.prog_asm.specs.declared.faults.LineMistake.{LineMistake}
 use Rattle.prog_asm.specs.declared.faults.LineMistake.TheVariants as mistake
-use Rattle.instruction_set.specs.Assembly.{FallsOff, Fault, Line, Step, assembly_of, code_from, complete, fault, last_line_number, lines_behind, placed, placed_at, ◌>>=◌}
+use Rattle.instruction_set.specs.Assembly.{FallsOff, Fault, Line, Step, assembly_in, code_from, complete, fault, last_line_number, lines_behind, placed, placed_at, ◌>>=◌}
 use Rattle.instruction_set.specs.Lines.{text_lines}
 use Rattle.instruction_set.specs.Programs.{Instruction, ends_well}
 use Rattle.prog_asm.specs.DraftViews.{Drafts, draft_point, step_from}
@@ -68,8 +68,8 @@ completed-good points steps none = go (code_from points steps) (code-good points
     go (Err told) good none = absurd cc
 
 -- A text with which nothing is wrong is assembled to its draft's instructions.
-pub program-is : (text : List ℕ) (lines : List Line) (draft : Draft) → faults_of text ≡ [] → lines_behind [] (text_lines text) ≡ Ok lines → Drafts lines draft →
-    assembly_of text ≡ Ok (filter_map (λ step. placed (draft_point draft) step.written) (map step_from draft.steps.items))
-program-is text lines draft none is drafts =
-    let read = assembly-lines text lines is ∙ sym (completed-drafts lines draft drafts) in
-    read ∙ completed-good (draft_point draft) (map step_from draft.steps.items) (sym (ap fault_in read) ∙ sym (faults-first text) ∙ ap first_fault none)
+pub program-is : (wide : Bool) (text : List ℕ) (lines : List Line) (draft : Draft) → faults_of wide text ≡ [] → lines_behind wide [] (text_lines text) ≡ Ok lines → Drafts lines draft →
+    assembly_in wide text ≡ Ok (filter_map (λ step. placed (draft_point draft) step.written) (map step_from draft.steps.items))
+program-is wide text lines draft none is drafts =
+    let read = assembly-lines wide text lines is ∙ sym (completed-drafts lines draft drafts) in
+    read ∙ completed-good (draft_point draft) (map step_from draft.steps.items) (sym (ap fault_in read) ∙ sym (faults-first wide text) ∙ ap first_fault none)

@@ -7,9 +7,9 @@ use Rattle.rights.specs.Calls as calls
 use Rattle.texts.specs.Names.{is_name}
 use Rattle.instruction_set.specs.Fields.{read_name}
 use Rattle.instruction_set.specs.Forms.{Field, Mnemonic, Set, Mov, Add, In, Jmp, Jeq, Jlt, Halt, Make, Written, Leading, After_error, nothing, one, two, three, four, whole, word_at, ◌>>=◌}
-use Rattle.instruction_set.specs.Forms.{commands_at, directory_at, else_at, flags_at, label_at, number_at, operand_at, path_at, register_at, rights_at, syscall_at, written_at, written_of}
+use Rattle.instruction_set.specs.Forms.{commands_at, directory_at, else_at, flags_at, further_at, label_at, number_at, operand_at, path_at, register_at, rights_at, syscall_at, written_at, written_of}
 use Rattle.instruction_set.specs.Programs.{Syscall}
-use Rattle.prog_asm.specs.OperandForms.{Form, Unfit, Register, Number, Operand, Path, Flags, Rights, Commands, Label, Directory, Else, behind_one, call_forms, first_unfit, forms_of, is_of}
+use Rattle.prog_asm.specs.OperandForms.{Form, Unfit, Register, Number, Operand, Path, Flags, Rights, AllRights, FurtherRight, Commands, Label, Directory, Else, behind_one, call_forms, first_unfit, forms_of, is_of, rights_form}
 
 -- whether words are of forms
 abbrev fits : List Form → List (List ℕ) → Bool
@@ -65,9 +65,14 @@ flags-takes : Takes (λ forms. Flags ∷ forms) flags_at
 unfolding flags_at
 flags-takes = word-takes Flags _ (λ forms. refl) (λ forms word words. asked (is_of Flags word) forms words _ refl)
 
-rights-takes : Takes (λ forms. Rights ∷ forms) rights_at
+rights-takes : (wide : Bool) → Takes (λ forms. rights_form wide ∷ forms) (rights_at wide)
 unfolding rights_at
-rights-takes = word-takes Rights _ (λ forms. refl) (λ forms word words. asked (is_of Rights word) forms words _ refl)
+rights-takes false = word-takes Rights _ (λ forms. refl) (λ forms word words. asked (is_of Rights word) forms words _ refl)
+rights-takes true = word-takes AllRights _ (λ forms. refl) (λ forms word words. asked (is_of AllRights word) forms words _ refl)
+
+further-takes : Takes (λ forms. FurtherRight ∷ forms) further_at
+unfolding further_at
+further-takes = word-takes FurtherRight _ (λ forms. refl) (λ forms word words. asked (is_of FurtherRight word) forms words _ refl)
 
 commands-takes : Takes (λ forms. Commands ∷ forms) commands_at
 unfolding commands_at
@@ -140,56 +145,57 @@ four-takes f g h k first second third fourth make firsts seconds thirds fourths 
     bound-takes f (λ forms. g (h (k forms))) first (λ a. three second third fourth (make a)) firsts (λ a. three-takes g h k second third fourth (make a) seconds thirds fourths)
 
 -- a call and where it leads
-call-takes : (call : Call) (words : List (List ℕ)) → fits (call_forms call) words ≡ fits_behind (Else ∷ Label ∷ []) (syscall_at call words)
+call-takes : (wide : Bool) (call : Call) (words : List (List ℕ)) → fits (call_forms wide call) words ≡ fits_behind (Else ∷ Label ∷ []) (syscall_at wide call words)
 unfolding syscall_at
-call-takes calls.Open words = two-takes (λ forms. Path ∷ forms) (λ forms. Flags ∷ forms) path_at flags_at _ path-takes flags-takes (Else ∷ Label ∷ []) words
-call-takes calls.Openat words =
+call-takes wide calls.Open words = two-takes (λ forms. Path ∷ forms) (λ forms. Flags ∷ forms) path_at flags_at _ path-takes flags-takes (Else ∷ Label ∷ []) words
+call-takes wide calls.Openat words =
     three-takes (λ forms. Operand ∷ forms) (λ forms. Path ∷ forms) (λ forms. Flags ∷ forms) operand_at path_at flags_at _ operand-takes path-takes flags-takes (Else ∷ Label ∷ []) words
-call-takes calls.Read words = one-takes (λ forms. Operand ∷ forms) operand_at _ operand-takes (Else ∷ Label ∷ []) words
-call-takes calls.Write words = two-takes (λ forms. Operand ∷ forms) (λ forms. Operand ∷ forms) operand_at operand_at _ operand-takes operand-takes (Else ∷ Label ∷ []) words
-call-takes calls.Sendfd words =
+call-takes wide calls.Read words = one-takes (λ forms. Operand ∷ forms) operand_at _ operand-takes (Else ∷ Label ∷ []) words
+call-takes wide calls.Write words = two-takes (λ forms. Operand ∷ forms) (λ forms. Operand ∷ forms) operand_at operand_at _ operand-takes operand-takes (Else ∷ Label ∷ []) words
+call-takes wide calls.Sendfd words =
     three-takes (λ forms. Operand ∷ forms) (λ forms. Operand ∷ forms) (λ forms. Operand ∷ forms) operand_at operand_at operand_at _ operand-takes operand-takes operand-takes
     (Else ∷ Label ∷ []) words
-call-takes calls.Recvfd words = one-takes (λ forms. Operand ∷ forms) operand_at _ operand-takes (Else ∷ Label ∷ []) words
-call-takes calls.Lseek words = two-takes (λ forms. Operand ∷ forms) (λ forms. Operand ∷ forms) operand_at operand_at _ operand-takes operand-takes (Else ∷ Label ∷ []) words
-call-takes calls.Ftruncate words = two-takes (λ forms. Operand ∷ forms) (λ forms. Operand ∷ forms) operand_at operand_at _ operand-takes operand-takes (Else ∷ Label ∷ []) words
-call-takes calls.Fsync words = one-takes (λ forms. Operand ∷ forms) operand_at _ operand-takes (Else ∷ Label ∷ []) words
-call-takes calls.Fstat words = one-takes (λ forms. Operand ∷ forms) operand_at _ operand-takes (Else ∷ Label ∷ []) words
-call-takes calls.Fcntl_getfl words = one-takes (λ forms. Operand ∷ forms) operand_at _ operand-takes (Else ∷ Label ∷ []) words
-call-takes calls.Fcntl_setfl words = two-takes (λ forms. Operand ∷ forms) (λ forms. Operand ∷ forms) operand_at operand_at _ operand-takes operand-takes (Else ∷ Label ∷ []) words
-call-takes calls.Fstatat words = two-takes (λ forms. Operand ∷ forms) (λ forms. Path ∷ forms) operand_at path_at _ operand-takes path-takes (Else ∷ Label ∷ []) words
-call-takes calls.Stat words = one-takes (λ forms. Path ∷ forms) path_at _ path-takes (Else ∷ Label ∷ []) words
-call-takes calls.Mkdirat words = two-takes (λ forms. Operand ∷ forms) (λ forms. Path ∷ forms) operand_at path_at _ operand-takes path-takes (Else ∷ Label ∷ []) words
-call-takes calls.Mkdir words = one-takes (λ forms. Path ∷ forms) path_at _ path-takes (Else ∷ Label ∷ []) words
-call-takes calls.Unlinkat words =
+call-takes wide calls.Recvfd words = one-takes (λ forms. Operand ∷ forms) operand_at _ operand-takes (Else ∷ Label ∷ []) words
+call-takes wide calls.Lseek words = two-takes (λ forms. Operand ∷ forms) (λ forms. Operand ∷ forms) operand_at operand_at _ operand-takes operand-takes (Else ∷ Label ∷ []) words
+call-takes wide calls.Ftruncate words = two-takes (λ forms. Operand ∷ forms) (λ forms. Operand ∷ forms) operand_at operand_at _ operand-takes operand-takes (Else ∷ Label ∷ []) words
+call-takes wide calls.Fsync words = one-takes (λ forms. Operand ∷ forms) operand_at _ operand-takes (Else ∷ Label ∷ []) words
+call-takes wide calls.Fstat words = one-takes (λ forms. Operand ∷ forms) operand_at _ operand-takes (Else ∷ Label ∷ []) words
+call-takes wide calls.Fcntl_getfl words = one-takes (λ forms. Operand ∷ forms) operand_at _ operand-takes (Else ∷ Label ∷ []) words
+call-takes wide calls.Fcntl_setfl words = two-takes (λ forms. Operand ∷ forms) (λ forms. Operand ∷ forms) operand_at operand_at _ operand-takes operand-takes (Else ∷ Label ∷ []) words
+call-takes wide calls.Fstatat words = two-takes (λ forms. Operand ∷ forms) (λ forms. Path ∷ forms) operand_at path_at _ operand-takes path-takes (Else ∷ Label ∷ []) words
+call-takes wide calls.Stat words = one-takes (λ forms. Path ∷ forms) path_at _ path-takes (Else ∷ Label ∷ []) words
+call-takes wide calls.Mkdirat words = two-takes (λ forms. Operand ∷ forms) (λ forms. Path ∷ forms) operand_at path_at _ operand-takes path-takes (Else ∷ Label ∷ []) words
+call-takes wide calls.Mkdir words = one-takes (λ forms. Path ∷ forms) path_at _ path-takes (Else ∷ Label ∷ []) words
+call-takes wide calls.Unlinkat words =
     three-takes (λ forms. Operand ∷ forms) (λ forms. Path ∷ forms) (λ forms. Directory ∷ forms) operand_at path_at directory_at _ operand-takes path-takes directory-takes
     (Else ∷ Label ∷ []) words
-call-takes calls.Unlink words = two-takes (λ forms. Path ∷ forms) (λ forms. Directory ∷ forms) path_at directory_at _ path-takes directory-takes (Else ∷ Label ∷ []) words
-call-takes calls.Renameat words =
+call-takes wide calls.Unlink words = two-takes (λ forms. Path ∷ forms) (λ forms. Directory ∷ forms) path_at directory_at _ path-takes directory-takes (Else ∷ Label ∷ []) words
+call-takes wide calls.Renameat words =
     four-takes (λ forms. Operand ∷ forms) (λ forms. Path ∷ forms) (λ forms. Operand ∷ forms) (λ forms. Path ∷ forms) operand_at path_at operand_at path_at _ operand-takes path-takes
     operand-takes path-takes (Else ∷ Label ∷ []) words
-call-takes calls.Dup words = one-takes (λ forms. Operand ∷ forms) operand_at _ operand-takes (Else ∷ Label ∷ []) words
-call-takes calls.Close words = one-takes (λ forms. Operand ∷ forms) operand_at _ operand-takes (Else ∷ Label ∷ []) words
-call-takes calls.Cap_rights_limit words = two-takes (λ forms. Operand ∷ forms) (λ forms. Rights ∷ forms) operand_at rights_at _ operand-takes rights-takes (Else ∷ Label ∷ []) words
-call-takes calls.Cap_fcntls_limit words = two-takes (λ forms. Operand ∷ forms) (λ forms. Commands ∷ forms) operand_at commands_at _ operand-takes commands-takes (Else ∷ Label ∷ []) words
-call-takes calls.Cap_enter words = refl
-call-takes calls.Cap_getmode words = refl
-call-takes calls.Socketpair words = refl
-call-takes calls.Fork words = refl
+call-takes wide calls.Dup words = one-takes (λ forms. Operand ∷ forms) operand_at _ operand-takes (Else ∷ Label ∷ []) words
+call-takes wide calls.Close words = one-takes (λ forms. Operand ∷ forms) operand_at _ operand-takes (Else ∷ Label ∷ []) words
+call-takes wide calls.Cap_rights_limit words = two-takes (λ forms. Operand ∷ forms) (λ forms. rights_form wide ∷ forms) operand_at (rights_at wide) _ operand-takes (rights-takes wide) (Else ∷ Label ∷ []) words
+call-takes wide calls.Cap_fcntls_limit words = two-takes (λ forms. Operand ∷ forms) (λ forms. Commands ∷ forms) operand_at commands_at _ operand-takes commands-takes (Else ∷ Label ∷ []) words
+call-takes wide calls.Cap_enter words = refl
+call-takes wide calls.Cap_getmode words = refl
+call-takes wide calls.Socketpair words = refl
+call-takes wide calls.Fork words = refl
+call-takes wide calls.Use words = two-takes (λ forms. Operand ∷ forms) (λ forms. FurtherRight ∷ forms) operand_at further_at _ operand-takes further-takes (Else ∷ Label ∷ []) words
 
-written-takes : (mnemonic : Mnemonic) (words : List (List ℕ)) → fits (forms_of mnemonic) words ≡ fits_behind [] (written_at mnemonic words)
+written-takes : (wide : Bool) (mnemonic : Mnemonic) (words : List (List ℕ)) → fits (forms_of wide mnemonic) words ≡ fits_behind [] (written_at wide mnemonic words)
 unfolding written_at
-written-takes Set words = two-takes (λ forms. Register ∷ forms) (λ forms. Number ∷ forms) register_at number_at _ register-takes number-takes [] words
-written-takes Mov words = two-takes (λ forms. Register ∷ forms) (λ forms. Register ∷ forms) register_at register_at _ register-takes register-takes [] words
-written-takes Add words = two-takes (λ forms. Register ∷ forms) (λ forms. Register ∷ forms) register_at register_at _ register-takes register-takes [] words
-written-takes In words = one-takes (λ forms. Register ∷ forms) register_at _ register-takes [] words
-written-takes Jmp words = one-takes (λ forms. Label ∷ forms) label_at _ label-takes [] words
-written-takes Jeq words =
+written-takes wide Set words = two-takes (λ forms. Register ∷ forms) (λ forms. Number ∷ forms) register_at number_at _ register-takes number-takes [] words
+written-takes wide Mov words = two-takes (λ forms. Register ∷ forms) (λ forms. Register ∷ forms) register_at register_at _ register-takes register-takes [] words
+written-takes wide Add words = two-takes (λ forms. Register ∷ forms) (λ forms. Register ∷ forms) register_at register_at _ register-takes register-takes [] words
+written-takes wide In words = one-takes (λ forms. Register ∷ forms) register_at _ register-takes [] words
+written-takes wide Jmp words = one-takes (λ forms. Label ∷ forms) label_at _ label-takes [] words
+written-takes wide Jeq words =
     three-takes (λ forms. Register ∷ forms) (λ forms. Number ∷ forms) (λ forms. Label ∷ forms) register_at number_at label_at _ register-takes number-takes label-takes [] words
-written-takes Jlt words =
+written-takes wide Jlt words =
     three-takes (λ forms. Register ∷ forms) (λ forms. Number ∷ forms) (λ forms. Label ∷ forms) register_at number_at label_at _ register-takes number-takes label-takes [] words
-written-takes Halt words = refl
-written-takes (Make call) words = call-takes call words ∙ go (syscall_at call words)
+written-takes wide Halt words = refl
+written-takes wide (Make call) words = call-takes wide call words ∙ go (syscall_at wide call words)
   where
     go : (read : Option (Syscall × List (List ℕ))) → fits_behind (Else ∷ Label ∷ []) read
         ≡ fits_behind [] (read >>= (λ a. one else_at (λ name. Leading (After_error a.0) name) a.1))
@@ -201,8 +207,8 @@ none-left a [] = refl
 none-left a (word ∷ words) = refl
 
 -- The first word that isn't of its form is there where the words are no instruction's.
-pub unfit-written : (mnemonic : Mnemonic) (words : List (List ℕ)) → is_none (first_unfit (forms_of mnemonic) words) ≡ is_some (written_of mnemonic words)
-unfit-written mnemonic words = written-takes mnemonic words ∙ go (written_at mnemonic words)
+pub unfit-written : (wide : Bool) (mnemonic : Mnemonic) (words : List (List ℕ)) → is_none (first_unfit (forms_of wide mnemonic) words) ≡ is_some (written_of wide mnemonic words)
+unfit-written wide mnemonic words = written-takes wide mnemonic words ∙ go (written_at wide mnemonic words)
   where
     go : (read : Option (Written × List (List ℕ))) → fits_behind [] read ≡ is_some (read >>= (λ read. whole read.0 read.1))
     go None = refl

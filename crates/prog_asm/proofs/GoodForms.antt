@@ -1,6 +1,6 @@
 -- What the grammar's fields and forms give is valid.
 use Rattle.std.proofs.Common.{◌≡◌, ◌-◌, ◌<◌, ◌≤◌, ℕ, Bool, true, false, List, [], ◌∷◌, refl, ap, ◌∙◌, subst, arith}
-use Rattle.std.specs.Prelude.{◌&&◌, bit_or, codes, Option, Some, None, cond, nat_lt, nat_le, option_map, option_and_then, ◌==◌}
+use Rattle.std.specs.Prelude.{◌&&◌, ◌||◌, bit_or, codes, Option, Some, None, cond, nat_lt, nat_le, option_map, option_and_then, ◌==◌}
 use Rattle.std.proofs.lemmas.Bool.{ltb-true, lt-ltb, leb-true}
 use Rattle.std.specs.List.{list_all}
 use Rattle.std.specs.Str.{bytes_eq}
@@ -9,15 +9,17 @@ use Rattle.rights.proofs.Tests.{both_left, both_right}
 use Rattle.rights.specs.Calls.{Call}
 use Rattle.rights.specs.Calls as calls
 use Rattle.rights.specs.Opens.{OpenRequest, is_valid}
-use Rattle.rights.specs.Sets.{is_within, all_rights, all_commands, right_names, command_names}
+use Rattle.rights.specs.Sets.{is_within, all_rights, all_commands, plain_rights, right_names, command_names}
+use Rattle.rights.specs.Uses.{is_further_right}
 use Rattle.texts.specs.Bytes.{comma}
 use Rattle.texts.specs.Parts.{parts}
 use Rattle.texts.specs.Numbers.{at_most, number_of}
-use Rattle.instruction_set.specs.Programs.{Instruction, Operand, Register, Number, Syscall, is_instruction, is_operand, is_path, is_register, is_syscall, is_value}
+use Rattle.instruction_set.specs.Programs.{Operand, Register, Number, Syscall, is_instruction, is_operand, is_path, is_register, is_syscall, is_value}
 use Rattle.instruction_set.specs.Programs as programs
-use Rattle.instruction_set.specs.Fields.{before_last, read_commands, read_flags, is_word_among, set_of_word, read_rights, union_from, operand_from, read_operand, path_in, read_path}
+use Rattle.instruction_set.specs.Languages.{is_spoken, speaks}
+use Rattle.instruction_set.specs.Fields.{before_last, read_commands, read_flags, further_in, is_word_among, set_of_word, read_further, read_rights, rights_in, union_from, operand_from, read_operand, path_in, read_path}
 use Rattle.instruction_set.specs.Fields.{read_register, request_of, set_of, flag_names, valid_request, read_value}
-use Rattle.instruction_set.specs.Forms.{Field, Always, If_equal, If_less, After_error, Mnemonic, Set, Mov, Add, In, Jmp, Jeq, Jlt, Halt, Make, Written, Alone, Leading, commands_at}
+use Rattle.instruction_set.specs.Forms.{Field, Always, If_equal, If_less, After_error, Mnemonic, Set, Mov, Add, In, Jmp, Jeq, Jlt, Halt, Make, Written, Alone, Leading, commands_at, further_at, known_in}
 use Rattle.instruction_set.specs.Forms.{directory_at, else_at, flags_at, four, label_at, led, nothing, number_at, one, operand_at, path_at, register_at, rights_at, syscall_at, three, two}
 use Rattle.instruction_set.specs.Forms.{whole, word_at, written_at, written_of, ◌>>=◌}
 
@@ -149,9 +151,33 @@ flags_at-good : Gives flags_at (λ f. is_valid f ≡ true)
 unfolding flags_at
 flags_at-good = word-good read_flags (λ f. is_valid f ≡ true) flags-good
 
-rights_at-good : Gives rights_at (λ rights. is_within rights all_rights ≡ true)
+-- A limit leaves rights that there are, in the narrow language plain ones alone.
+abbrev GoodRights : Bool → ℕ → Type 0
+GoodRights wide rights = (is_within rights all_rights ≡ true) × ((wide || is_within rights plain_rights) ≡ true)
+
+rights-good : (wide : Bool) (word : List ℕ) (set : ℕ) → read_rights wide word ≡ Some set → GoodRights wide set
+rights-good wide word set h = go (set_of right_names word) refl h
+  where
+    go : (o : Option ℕ) → set_of right_names word ≡ o → rights_in wide o ≡ Some set → GoodRights wide set
+    go None is h = absurd cc
+    go (Some rights) is h =
+        let found = chosen (wide || is_within rights plain_rights) rights set h in
+        subst (GoodRights wide) found.1 (set-good all_rights right_names refl word rights is, found.0)
+
+rights_at-good : (wide : Bool) → Gives (rights_at wide) (GoodRights wide)
 unfolding rights_at
-rights_at-good = word-good read_rights (λ rights. is_within rights all_rights ≡ true) (set-good all_rights right_names refl)
+rights_at-good wide = word-good (read_rights wide) (GoodRights wide) (rights-good wide)
+
+further-good : (word : List ℕ) (right : ℕ) → read_further word ≡ Some right → is_further_right right ≡ true
+further-good word right h = go (set_of_word right_names word) h
+  where
+    go : (o : Option ℕ) → further_in o ≡ Some right → is_further_right right ≡ true
+    go None h = absurd cc
+    go (Some own) h = let found = chosen (is_further_right own) own right h in subst (λ n. is_further_right n ≡ true) found.1 found.0
+
+further_at-good : Gives further_at (λ right. is_further_right right ≡ true)
+unfolding further_at
+further_at-good = word-good read_further (λ right. is_further_right right ≡ true) further-good
 
 commands_at-good : Gives commands_at (λ commands. is_within commands all_commands ≡ true)
 unfolding commands_at
@@ -194,86 +220,102 @@ four-good first second third fourth make P Q R O Good firsts seconds thirds four
 both : (a b : Bool) → a ≡ true → b ≡ true → (a && b) ≡ true
 both a b p q = ap (λ a. a && b) p ∙ q
 
--- the calls' operands
-abbrev GoodCall : Syscall → Type 0
-GoodCall call = is_syscall call ≡ true
+-- the calls' operands; and each call is of the language
+abbrev GoodCall : Bool → Syscall → Type 0
+GoodCall wide call = (is_syscall call ≡ true) × (speaks wide call ≡ true)
 
-D : (make : Operand → Syscall) → ((o : Operand) → is_operand o ≡ true → GoodCall (make o)) → Gives (one operand_at make) GoodCall
-D make good = one-good operand_at make (λ o. is_operand o ≡ true) GoodCall operand_at-good good
+-- The language has the instruction.
+abbrev pub Known : Bool → Mnemonic → Type 0
+Known wide mnemonic = known_in wide (Some mnemonic) ≡ Some mnemonic
 
-DV : (make : Operand → Operand → Syscall) → ((o v : Operand) → is_operand o ≡ true → is_operand v ≡ true → GoodCall (make o v)) → Gives (two operand_at operand_at make) GoodCall
-DV make good = two-good operand_at operand_at make (λ o. is_operand o ≡ true) (λ o. is_operand o ≡ true) GoodCall operand_at-good operand_at-good good
+known-twice : (wide : Bool) (mnemonic : Option Mnemonic) → known_in wide (known_in wide mnemonic) ≡ known_in wide mnemonic
+known-twice wide None = refl
+known-twice true (Some (Make calls.Use)) = refl
+known-twice false (Some (Make calls.Use)) = refl
+known-twice wide (Some mnemonic) = refl
 
-DP : (make : Operand → List ℕ → Syscall) → ((o : Operand) (p : List ℕ) → is_operand o ≡ true → is_path p ≡ true → GoodCall (make o p)) → Gives (two operand_at path_at make) GoodCall
-DP make good = two-good operand_at path_at make (λ o. is_operand o ≡ true) (λ p. is_path p ≡ true) GoodCall operand_at-good path_at-good good
+pub known-is : (wide : Bool) (found : Option Mnemonic) (mnemonic : Mnemonic) → known_in wide found ≡ Some mnemonic → Known wide mnemonic
+known-is wide found mnemonic is = subst (λ known. known_in wide known ≡ known) is (known-twice wide found)
 
-syscall-good : (call : Call) → Gives (syscall_at call) GoodCall
+D : (wide : Bool) (make : Operand → Syscall) → ((o : Operand) → is_operand o ≡ true → GoodCall wide (make o)) → Gives (one operand_at make) (GoodCall wide)
+D wide make good = one-good operand_at make (λ o. is_operand o ≡ true) (GoodCall wide) operand_at-good good
+
+DV : (wide : Bool) (make : Operand → Operand → Syscall) → ((o v : Operand) → is_operand o ≡ true → is_operand v ≡ true → GoodCall wide (make o v)) → Gives (two operand_at operand_at make) (GoodCall wide)
+DV wide make good = two-good operand_at operand_at make (λ o. is_operand o ≡ true) (λ o. is_operand o ≡ true) (GoodCall wide) operand_at-good operand_at-good good
+
+DP : (wide : Bool) (make : Operand → List ℕ → Syscall) → ((o : Operand) (p : List ℕ) → is_operand o ≡ true → is_path p ≡ true → GoodCall wide (make o p)) → Gives (two operand_at path_at make) (GoodCall wide)
+DP wide make good = two-good operand_at path_at make (λ o. is_operand o ≡ true) (λ p. is_path p ≡ true) (GoodCall wide) operand_at-good path_at-good good
+
+syscall-good : (wide : Bool) (call : Call) → Known wide (Make call) → Gives (syscall_at wide call) (GoodCall wide)
 unfolding syscall_at
-syscall-good calls.Open = two-good path_at flags_at programs.Open (λ p. is_path p ≡ true) (λ f. is_valid f ≡ true) GoodCall path_at-good flags_at-good (λ p f a b. both _ _ a b)
-syscall-good calls.Openat = three-good operand_at path_at flags_at programs.Openat (λ o. is_operand o ≡ true) (λ p. is_path p ≡ true)
-    (λ f. is_valid f ≡ true) GoodCall operand_at-good path_at-good flags_at-good (λ o p f a b c. both _ _ (both _ _ a b) c)
-syscall-good calls.Read = D programs.Read (λ o a. a)
-syscall-good calls.Write = DV programs.Write (λ o v a b. both _ _ a b)
-syscall-good calls.Sendfd = three-good operand_at operand_at operand_at programs.Sendfd (λ o. is_operand o ≡ true) (λ o. is_operand o ≡ true)
-    (λ o. is_operand o ≡ true) GoodCall operand_at-good operand_at-good operand_at-good (λ o e v a b c. both _ _ (both _ _ a b) c)
-syscall-good calls.Recvfd = D programs.Recvfd (λ o a. a)
-syscall-good calls.Lseek = DV programs.Lseek (λ o v a b. both _ _ a b)
-syscall-good calls.Ftruncate = DV programs.Ftruncate (λ o v a b. both _ _ a b)
-syscall-good calls.Fsync = D programs.Fsync (λ o a. a)
-syscall-good calls.Fstat = D programs.Fstat (λ o a. a)
-syscall-good calls.Fcntl_getfl = D programs.Fcntl_getfl (λ o a. a)
-syscall-good calls.Fcntl_setfl = DV programs.Fcntl_setfl (λ o v a b. both _ _ a b)
-syscall-good calls.Fstatat = DP programs.Fstatat (λ o p a b. both _ _ a b)
-syscall-good calls.Stat = one-good path_at programs.Stat (λ p. is_path p ≡ true) GoodCall path_at-good (λ p a. a)
-syscall-good calls.Mkdirat = DP programs.Mkdirat (λ o p a b. both _ _ a b)
-syscall-good calls.Mkdir = one-good path_at programs.Mkdir (λ p. is_path p ≡ true) GoodCall path_at-good (λ p a. a)
-syscall-good calls.Unlinkat = three-good operand_at path_at directory_at programs.Unlinkat (λ o. is_operand o ≡ true) (λ p. is_path p ≡ true)
-    (λ _. Unit {0}) GoodCall operand_at-good path_at-good (any_field directory_at) (λ o p d a b c. both _ _ a b)
-syscall-good calls.Unlink = two-good path_at directory_at programs.Unlink (λ p. is_path p ≡ true) (λ _. Unit {0}) GoodCall path_at-good (any_field directory_at) (λ p d a b. a)
-syscall-good calls.Renameat = four-good operand_at path_at operand_at path_at programs.Renameat (λ o. is_operand o ≡ true) (λ p. is_path p ≡ true)
-    (λ o. is_operand o ≡ true) (λ p. is_path p ≡ true) GoodCall operand_at-good path_at-good operand_at-good path_at-good
-    (λ o p t q a b c d. both _ _ (both _ _ (both _ _ a b) c) d)
-syscall-good calls.Dup = D programs.Dup (λ o a. a)
-syscall-good calls.Close = D programs.Close (λ o a. a)
-syscall-good calls.Cap_rights_limit = two-good operand_at rights_at programs.Cap_rights_limit (λ o. is_operand o ≡ true)
-    (λ r. is_within r all_rights ≡ true) GoodCall operand_at-good rights_at-good (λ o r a b. both _ _ a b)
-syscall-good calls.Cap_fcntls_limit = two-good operand_at commands_at programs.Cap_fcntls_limit (λ o. is_operand o ≡ true)
-    (λ r. is_within r all_commands ≡ true) GoodCall operand_at-good commands_at-good (λ o r a b. both _ _ a b)
-syscall-good calls.Cap_enter = nothing-good programs.Cap_enter GoodCall refl
-syscall-good calls.Cap_getmode = nothing-good programs.Cap_getmode GoodCall refl
-syscall-good calls.Socketpair = nothing-good programs.Socketpair GoodCall refl
-syscall-good calls.Fork = nothing-good programs.Fork GoodCall refl
+syscall-good wide calls.Open known = two-good path_at flags_at programs.Open (λ p. is_path p ≡ true) (λ f. is_valid f ≡ true) (GoodCall wide) path_at-good flags_at-good (λ p f a b. (both _ _ a b, refl))
+syscall-good wide calls.Openat known = three-good operand_at path_at flags_at programs.Openat (λ o. is_operand o ≡ true) (λ p. is_path p ≡ true)
+    (λ f. is_valid f ≡ true) (GoodCall wide) operand_at-good path_at-good flags_at-good (λ o p f a b c. (both _ _ (both _ _ a b) c, refl))
+syscall-good wide calls.Read known = D wide programs.Read (λ o a. (a, refl))
+syscall-good wide calls.Write known = DV wide programs.Write (λ o v a b. (both _ _ a b, refl))
+syscall-good wide calls.Sendfd known = three-good operand_at operand_at operand_at programs.Sendfd (λ o. is_operand o ≡ true) (λ o. is_operand o ≡ true)
+    (λ o. is_operand o ≡ true) (GoodCall wide) operand_at-good operand_at-good operand_at-good (λ o e v a b c. (both _ _ (both _ _ a b) c, refl))
+syscall-good wide calls.Recvfd known = D wide programs.Recvfd (λ o a. (a, refl))
+syscall-good wide calls.Lseek known = DV wide programs.Lseek (λ o v a b. (both _ _ a b, refl))
+syscall-good wide calls.Ftruncate known = DV wide programs.Ftruncate (λ o v a b. (both _ _ a b, refl))
+syscall-good wide calls.Fsync known = D wide programs.Fsync (λ o a. (a, refl))
+syscall-good wide calls.Fstat known = D wide programs.Fstat (λ o a. (a, refl))
+syscall-good wide calls.Fcntl_getfl known = D wide programs.Fcntl_getfl (λ o a. (a, refl))
+syscall-good wide calls.Fcntl_setfl known = DV wide programs.Fcntl_setfl (λ o v a b. (both _ _ a b, refl))
+syscall-good wide calls.Fstatat known = DP wide programs.Fstatat (λ o p a b. (both _ _ a b, refl))
+syscall-good wide calls.Stat known = one-good path_at programs.Stat (λ p. is_path p ≡ true) (GoodCall wide) path_at-good (λ p a. (a, refl))
+syscall-good wide calls.Mkdirat known = DP wide programs.Mkdirat (λ o p a b. (both _ _ a b, refl))
+syscall-good wide calls.Mkdir known = one-good path_at programs.Mkdir (λ p. is_path p ≡ true) (GoodCall wide) path_at-good (λ p a. (a, refl))
+syscall-good wide calls.Unlinkat known = three-good operand_at path_at directory_at programs.Unlinkat (λ o. is_operand o ≡ true) (λ p. is_path p ≡ true)
+    (λ _. Unit {0}) (GoodCall wide) operand_at-good path_at-good (any_field directory_at) (λ o p d a b c. (both _ _ a b, refl))
+syscall-good wide calls.Unlink known = two-good path_at directory_at programs.Unlink (λ p. is_path p ≡ true) (λ _. Unit {0}) (GoodCall wide) path_at-good (any_field directory_at) (λ p d a b. (a, refl))
+syscall-good wide calls.Renameat known = four-good operand_at path_at operand_at path_at programs.Renameat (λ o. is_operand o ≡ true) (λ p. is_path p ≡ true)
+    (λ o. is_operand o ≡ true) (λ p. is_path p ≡ true) (GoodCall wide) operand_at-good path_at-good operand_at-good path_at-good
+    (λ o p t q a b c d. (both _ _ (both _ _ (both _ _ a b) c) d, refl))
+syscall-good wide calls.Dup known = D wide programs.Dup (λ o a. (a, refl))
+syscall-good wide calls.Close known = D wide programs.Close (λ o a. (a, refl))
+syscall-good wide calls.Cap_rights_limit known = two-good operand_at (rights_at wide) programs.Cap_rights_limit (λ o. is_operand o ≡ true)
+    (GoodRights wide) (GoodCall wide) operand_at-good (rights_at-good wide) (λ o r a b. (both _ _ a b.0, b.1))
+syscall-good wide calls.Cap_fcntls_limit known = two-good operand_at commands_at programs.Cap_fcntls_limit (λ o. is_operand o ≡ true)
+    (λ r. is_within r all_commands ≡ true) (GoodCall wide) operand_at-good commands_at-good (λ o r a b. (both _ _ a b, refl))
+syscall-good wide calls.Cap_enter known = nothing-good programs.Cap_enter (GoodCall wide) (refl, refl)
+syscall-good wide calls.Cap_getmode known = nothing-good programs.Cap_getmode (GoodCall wide) (refl, refl)
+syscall-good wide calls.Socketpair known = nothing-good programs.Socketpair (GoodCall wide) (refl, refl)
+syscall-good wide calls.Fork known = nothing-good programs.Fork (GoodCall wide) (refl, refl)
+syscall-good wide calls.Use known = two-good operand_at further_at programs.Use (λ o. is_operand o ≡ true) (λ r. is_further_right r ≡ true)
+    (GoodCall wide) operand_at-good further_at-good (λ o r a b. (both _ _ a b, (chosen wide (Make calls.Use) (Make calls.Use) known).0))
 
--- An instruction is valid at any target that is one.
-abbrev pub GoodWritten : Written → Type 0
-GoodWritten (Alone instruction) = (points : ℕ) → is_instruction points instruction ≡ true
-GoodWritten (Leading jump name) = (points target : ℕ) → nat_lt target points ≡ true → is_instruction points (led jump target) ≡ true
+-- An instruction is valid at any target that is one, and of the language.
+abbrev pub GoodWritten : Bool → Written → Type 0
+GoodWritten wide (Alone instruction) = (points : ℕ) → (is_instruction points instruction ≡ true) × (is_spoken wide instruction ≡ true)
+GoodWritten wide (Leading jump name) =
+    (points target : ℕ) → nat_lt target points ≡ true → (is_instruction points (led jump target) ≡ true) × (is_spoken wide (led jump target) ≡ true)
 
-written_at-good : (mnemonic : Mnemonic) → Gives (written_at mnemonic) GoodWritten
+written_at-good : (wide : Bool) (mnemonic : Mnemonic) → Known wide mnemonic → Gives (written_at wide mnemonic) (GoodWritten wide)
 unfolding written_at
-written_at-good Set = two-good register_at number_at (λ r n. Alone (programs.Set r n)) (λ r. is_register r ≡ true)
-    (λ n. is_value n ≡ true) GoodWritten register_at-good number_at-good (λ r n a b points. both _ _ a b)
-written_at-good Mov = two-good register_at register_at (λ r s. Alone (programs.Mov r s)) (λ r. is_register r ≡ true)
-    (λ r. is_register r ≡ true) GoodWritten register_at-good register_at-good (λ r n a b points. both _ _ a b)
-written_at-good Add = two-good register_at register_at (λ r s. Alone (programs.Add r s)) (λ r. is_register r ≡ true)
-    (λ r. is_register r ≡ true) GoodWritten register_at-good register_at-good (λ r n a b points. both _ _ a b)
-written_at-good In = one-good register_at (λ r. Alone (programs.In r)) (λ r. is_register r ≡ true) GoodWritten register_at-good (λ r a points. a)
-written_at-good Jmp = one-good label_at (λ name. Leading Always name) (λ _. Unit {0}) GoodWritten (any_field label_at) (λ name a points target below. below)
-written_at-good Jeq = three-good register_at number_at label_at (λ r n name. Leading (If_equal r n) name) (λ r. is_register r ≡ true)
-    (λ n. is_value n ≡ true) (λ _. Unit {0}) GoodWritten register_at-good number_at-good (any_field label_at)
-    (λ r n name a b c points target below. both _ _ (both _ _ a b) below)
-written_at-good Jlt = three-good register_at number_at label_at (λ r n name. Leading (If_less r n) name) (λ r. is_register r ≡ true)
-    (λ n. is_value n ≡ true) (λ _. Unit {0}) GoodWritten register_at-good number_at-good (any_field label_at)
-    (λ r n name a b c points target below. both _ _ (both _ _ a b) below)
-written_at-good Halt = nothing-good (Alone programs.Halt) GoodWritten (λ points. refl)
-written_at-good (Make call) = two-good (syscall_at call) else_at (λ call name. Leading (After_error call) name) GoodCall (λ _. Unit {0}) GoodWritten
-    (syscall-good call) (any_field else_at) (λ s name a b points target below. both _ _ a below)
+written_at-good wide Set known = two-good register_at number_at (λ r n. Alone (programs.Set r n)) (λ r. is_register r ≡ true)
+    (λ n. is_value n ≡ true) (GoodWritten wide) register_at-good number_at-good (λ r n a b points. (both _ _ a b, refl))
+written_at-good wide Mov known = two-good register_at register_at (λ r s. Alone (programs.Mov r s)) (λ r. is_register r ≡ true)
+    (λ r. is_register r ≡ true) (GoodWritten wide) register_at-good register_at-good (λ r n a b points. (both _ _ a b, refl))
+written_at-good wide Add known = two-good register_at register_at (λ r s. Alone (programs.Add r s)) (λ r. is_register r ≡ true)
+    (λ r. is_register r ≡ true) (GoodWritten wide) register_at-good register_at-good (λ r n a b points. (both _ _ a b, refl))
+written_at-good wide In known = one-good register_at (λ r. Alone (programs.In r)) (λ r. is_register r ≡ true) (GoodWritten wide) register_at-good (λ r a points. (a, refl))
+written_at-good wide Jmp known = one-good label_at (λ name. Leading Always name) (λ _. Unit {0}) (GoodWritten wide) (any_field label_at) (λ name a points target below. (below, refl))
+written_at-good wide Jeq known = three-good register_at number_at label_at (λ r n name. Leading (If_equal r n) name) (λ r. is_register r ≡ true)
+    (λ n. is_value n ≡ true) (λ _. Unit {0}) (GoodWritten wide) register_at-good number_at-good (any_field label_at)
+    (λ r n name a b c points target below. (both _ _ (both _ _ a b) below, refl))
+written_at-good wide Jlt known = three-good register_at number_at label_at (λ r n name. Leading (If_less r n) name) (λ r. is_register r ≡ true)
+    (λ n. is_value n ≡ true) (λ _. Unit {0}) (GoodWritten wide) register_at-good number_at-good (any_field label_at)
+    (λ r n name a b c points target below. (both _ _ (both _ _ a b) below, refl))
+written_at-good wide Halt known = nothing-good (Alone programs.Halt) (GoodWritten wide) (λ points. (refl, refl))
+written_at-good wide (Make call) known = two-good (syscall_at wide call) else_at (λ call name. Leading (After_error call) name) (GoodCall wide) (λ _. Unit {0}) (GoodWritten wide)
+    (syscall-good wide call known) (any_field else_at) (λ s name a b points target below. (both _ _ a.0 below, a.1))
 
 whole-is : {A : Type 0} (a b : A) (words : List (List ℕ)) → whole a words ≡ Some b → a ≡ b
 whole-is a b [] h = cc
 whole-is a b (word ∷ words) h = absurd cc
 
-pub written-good : (mnemonic : Mnemonic) (words : List (List ℕ)) (w : Written) → written_of mnemonic words ≡ Some w → GoodWritten w
-written-good mnemonic words w h =
-    let read = bound (written_at mnemonic words) (λ read. whole read.0 read.1) w h in
-    subst GoodWritten (whole-is read.0.0 w read.0.1 read.2) (written_at-good mnemonic words read.0 read.1)
+pub written-good : (wide : Bool) (mnemonic : Mnemonic) (words : List (List ℕ)) (w : Written) → Known wide mnemonic → written_of wide mnemonic words ≡ Some w → GoodWritten wide w
+written-good wide mnemonic words w known h =
+    let read = bound (written_at wide mnemonic words) (λ read. whole read.0 read.1) w h in
+    subst (GoodWritten wide) (whole-is read.0.0 w read.0.1 read.2) (written_at-good wide mnemonic known words read.0 read.1)

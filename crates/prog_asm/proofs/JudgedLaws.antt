@@ -6,7 +6,7 @@ use Rattle.texts.specs.Names.{is_name}
 use Rattle.instruction_set.specs.Assembly.{FallsOff, Fault, Line, Mistake, NoLabel, Step, TooMany, TwiceLabel, Word, code_from, complete, fault, instruction_in, is_one_too_many, is_twice}
 use Rattle.instruction_set.specs.Assembly.{last_line_number, line_behind, line_read, line_with, lines_behind, operands_read}
 use Rattle.instruction_set.specs.Assembly.{placed, placed_at, point_named, program_read, read_as, steps_of, told_at, with_label}
-use Rattle.instruction_set.specs.Assembly.{assembly_of, ◌>>=◌}
+use Rattle.instruction_set.specs.Assembly.{assembly_in, ◌>>=◌}
 use Rattle.instruction_set.specs.Forms.{Alone, Jump, Leading, Mnemonic, Written, led, mnemonic_of, written_of, Always, If_equal, If_less, After_error}
 use Rattle.instruction_set.specs.Lines.{text_lines, uncommented}
 use Rattle.instruction_set.specs.Programs.{Halt, Instruction, ends_well, is_last}
@@ -36,37 +36,37 @@ operand-mistake word operands None (Some written) same = refl
 operand-mistake word operands (Some unfit) None same = refl
 operand-mistake word operands (Some unfit) (Some written) same = absurd cc
 
-instruction-mistake : (words : List places.Word) → mistake_in (wrong_instruction words) ≡ error_in (instruction_in (said words))
-instruction-mistake [] = refl
-instruction-mistake (word ∷ operands) = go (mnemonic_of word.text)
+instruction-mistake : (wide : Bool) (words : List places.Word) → mistake_in (wrong_instruction wide words) ≡ error_in (instruction_in wide (said words))
+instruction-mistake wide [] = refl
+instruction-mistake wide (word ∷ operands) = go (mnemonic_of wide word.text)
   where
-    go : (mnemonic : Option Mnemonic) → mistake_in (wrong_operand mnemonic word operands) ≡ error_in (read_as mnemonic (said operands))
+    go : (mnemonic : Option Mnemonic) → mistake_in (wrong_operand wide mnemonic word operands) ≡ error_in (read_as wide mnemonic (said operands))
     go None = refl
-    go (Some mnemonic) = operand-mistake word operands (first_unfit (forms_of mnemonic) (said operands)) (written_of mnemonic (said operands)) (unfit-written mnemonic (said operands))
+    go (Some mnemonic) = operand-mistake word operands (first_unfit (forms_of wide mnemonic) (said operands)) (written_of wide mnemonic (said operands)) (unfit-written wide mnemonic (said operands))
 
 label-keeps : (label : Option (List ℕ)) (read : Result (Option Written) Mistake) → error_in read ≡ error_in (with_label label read)
 label-keeps label (Ok read) = refl
 label-keeps label (Err mistake) = refl
 
-parts-mistake : (stray : Option Span) (label : Option places.Word) (words : List places.Word) →
-    mistake_in (wrong_in (bad_label label) stray words) ≡ error_in (line_of_parts stray label (said words))
-parts-mistake None None words = instruction-mistake words ∙ label-keeps None (instruction_in (said words))
-parts-mistake (Some at) None words = refl
-parts-mistake None (Some label) words = go (is_name label.text)
+parts-mistake : (wide : Bool) (stray : Option Span) (label : Option places.Word) (words : List places.Word) →
+    mistake_in (wrong_in wide (bad_label label) stray words) ≡ error_in (line_of_parts wide stray label (said words))
+parts-mistake wide None None words = instruction-mistake wide words ∙ label-keeps None (instruction_in wide (said words))
+parts-mistake wide (Some at) None words = refl
+parts-mistake wide None (Some label) words = go (is_name label.text)
   where
-    go : (is : Bool) → mistake_in (wrong_in (cond is None (Some label.span)) None words)
-        ≡ error_in (cond is (with_label (Some label.text) (instruction_in (said words))) (Err Word))
-    go true = instruction-mistake words ∙ label-keeps (Some label.text) (instruction_in (said words))
+    go : (is : Bool) → mistake_in (wrong_in wide (cond is None (Some label.span)) None words)
+        ≡ error_in (cond is (with_label (Some label.text) (instruction_in wide (said words))) (Err Word))
+    go true = instruction-mistake wide words ∙ label-keeps (Some label.text) (instruction_in wide (said words))
     go false = refl
-parts-mistake (Some at) (Some label) words = go (is_name label.text)
+parts-mistake wide (Some at) (Some label) words = go (is_name label.text)
   where
-    go : (is : Bool) → mistake_in (wrong_in (cond is None (Some label.span)) (Some at) words) ≡ Some Word
+    go : (is : Bool) → mistake_in (wrong_in wide (cond is None (Some label.span)) (Some at) words) ≡ Some Word
     go true = refl
     go false = refl
 
 -- What is wrong with a line by itself is why it isn't read.
-pub line-mistake : (line : List ℕ) → option_map (λ wrong. wrong.mistake) (wrong_on line) ≡ error_in (line_read line)
-line-mistake line = parts-mistake (stray_in (uncommented line)) (label_in (words_on line)) (behind_label (words_on line)) ∙ ap error_in (sym (parts-read line))
+pub line-mistake : (wide : Bool) (line : List ℕ) → option_map (λ wrong. wrong.mistake) (wrong_on wide line) ≡ error_in (line_read wide line)
+line-mistake wide line = parts-mistake wide (stray_in (uncommented line)) (label_in (words_on line)) (behind_label (words_on line)) ∙ ap error_in (sym (parts-read wide line))
 
 -- ALL LINES TOGETHER
 -- instructions that go on where the steps do
@@ -136,9 +136,9 @@ together-first : (lines : List (List ℕ)) (read : List Line) → first_fault (f
 together-first lines read = steps-first lines (point_named read) (steps_of read) (falls_off lines (steps_of read)) (complete (steps_of read)) (falls-first lines (steps_of read))
 
 -- LINE BY LINE
-lines-first : (all : List (List ℕ)) (before : List Line) (lines : List (List ℕ)) → first_fault (faults_behind all before lines) ≡ fault_in (lines_behind before lines >>= program_read)
-lines-first all before [] = together-first all before
-lines-first all before (line ∷ lines) = go (line_read line) (wrong_on line) (line-mistake line) (λ read. lines-first all (before ++ read ∷ []) lines)
+lines-first : (wide : Bool) (all : List (List ℕ)) (before : List Line) (lines : List (List ℕ)) → first_fault (faults_behind wide all before lines) ≡ fault_in (lines_behind wide before lines >>= program_read)
+lines-first wide all before [] = together-first all before
+lines-first wide all before (line ∷ lines) = go (line_read wide line) (wrong_on wide line) (line-mistake wide line) (λ read. lines-first wide all (before ++ read ∷ []) lines)
   where
     number : ℕ
     number = length before + 1
@@ -147,11 +147,11 @@ lines-first all before (line ∷ lines) = go (line_read line) (wrong_on line) (l
     second twice = cond twice (placed_fault TwiceLabel number (label_place (label_in (words_on line))) ∷ []) []
 
     rest : Bool → Bool → Line → List LineFault
-    rest twice many read = cond many (placed_fault TooMany number (instruction_place line) ∷ []) (faults_behind all (before ++ cond twice (line_with None read.instruction) read ∷ []) lines)
+    rest twice many read = cond many (placed_fault TooMany number (instruction_place line) ∷ []) (faults_behind wide all (before ++ cond twice (line_with None read.instruction) read ∷ []) lines)
 
-    fine : (read : Line) (twice many : Bool) → first_fault (faults_behind all (before ++ read ∷ []) lines) ≡ fault_in (lines_behind (before ++ read ∷ []) lines >>= program_read) →
+    fine : (read : Line) (twice many : Bool) → first_fault (faults_behind wide all (before ++ read ∷ []) lines) ≡ fault_in (lines_behind wide (before ++ read ∷ []) lines >>= program_read) →
         first_fault (([] ++ second twice) ++ rest twice many read)
-        ≡ fault_in ((told_at before (cond twice (Err TwiceLabel) (cond many (Err TooMany) (Ok read))) >>= (λ one. lines_behind (before ++ one ∷ []) lines)) >>= program_read)
+        ≡ fault_in ((told_at before (cond twice (Err TwiceLabel) (cond many (Err TooMany) (Ok read))) >>= (λ one. lines_behind wide (before ++ one ∷ []) lines)) >>= program_read)
     fine read true many next = refl
     fine read false true next = refl
     fine read false false next = next
@@ -160,32 +160,32 @@ lines-first all before (line ∷ lines) = go (line_read line) (wrong_on line) (l
     wrong_first mistake own more same = ap (λ m. Some (fault m number)) same
 
     go : (read : Result Line Mistake) (wrong : Option Wrong) → option_map (λ wrong. wrong.mistake) wrong ≡ error_in read →
-        ((read : Line) → first_fault (faults_behind all (before ++ read ∷ []) lines) ≡ fault_in (lines_behind (before ++ read ∷ []) lines >>= program_read)) →
+        ((read : Line) → first_fault (faults_behind wide all (before ++ read ∷ []) lines) ≡ fault_in (lines_behind wide (before ++ read ∷ []) lines >>= program_read)) →
         first_fault ((own_fault number wrong ++ second (is_twice before (read_or_halt line read).label))
         ++ rest (is_twice before (read_or_halt line read).label) (is_one_too_many (length (steps_of before)) (read_or_halt line read).instruction) (read_or_halt line read))
-        ≡ fault_in ((told_at before (line_behind before read) >>= (λ one. lines_behind (before ++ one ∷ []) lines)) >>= program_read)
+        ≡ fault_in ((told_at before (line_behind before read) >>= (λ one. lines_behind wide (before ++ one ∷ []) lines)) >>= program_read)
     go (Ok read) None same good = fine read (is_twice before read.label) (is_one_too_many (length (steps_of before)) read.instruction) (good read)
     go (Ok read) (Some wrong) same good = absurd cc
     go (Err mistake) None same good = absurd cc
     go (Err mistake) (Some wrong) same good = let is : wrong.mistake ≡ mistake = cc in wrong_first mistake wrong.mistake [] is
 
 -- The first of all faults of a text is the one that it isn't assembled for.
-pub faults-first : (text : List ℕ) → first_fault (faults_of text) ≡ fault_in (assembly_of text)
-unfolding assembly_of
-faults-first text = lines-first (text_lines text) [] (text_lines text)
+pub faults-first : (wide : Bool) (text : List ℕ) → first_fault (faults_of wide text) ≡ fault_in (assembly_in wide text)
+unfolding assembly_in
+faults-first wide text = lines-first wide (text_lines text) [] (text_lines text)
 
 -- LINES WITH WHICH NOTHING IS WRONG
 -- Such a line is read, and counts as what it is read as.
-pub line-good : (before : List Line) (line : List ℕ) (lines : List (List ℕ)) → faults_on before line ≡ [] → is_beyond before line ≡ false →
-    lines_behind before (line ∷ lines) ≡ lines_behind (before ++ with_new_label before (counted line) ∷ []) lines
-line-good before line lines none fits = go (line_read line) (wrong_on line) (line-mistake line) none fits
+pub line-good : (wide : Bool) (before : List Line) (line : List ℕ) (lines : List (List ℕ)) → faults_on wide before line ≡ [] → is_beyond wide before line ≡ false →
+    lines_behind wide before (line ∷ lines) ≡ lines_behind wide (before ++ with_new_label before (counted wide line) ∷ []) lines
+line-good wide before line lines none fits = go (line_read wide line) (wrong_on wide line) (line-mistake wide line) none fits
   where
     told : Bool → List LineFault
     told twice = cond twice (placed_fault TwiceLabel (length before + 1) (label_place (label_in (words_on line))) ∷ []) []
 
     fine : (read : Line) (twice many : Bool) → told twice ≡ [] → many ≡ false →
-        (told_at before (cond twice (Err TwiceLabel) (cond many (Err TooMany) (Ok read))) >>= (λ one. lines_behind (before ++ one ∷ []) lines))
-        ≡ lines_behind (before ++ cond twice (line_with None read.instruction) read ∷ []) lines
+        (told_at before (cond twice (Err TwiceLabel) (cond many (Err TooMany) (Ok read))) >>= (λ one. lines_behind wide (before ++ one ∷ []) lines))
+        ≡ lines_behind wide (before ++ cond twice (line_with None read.instruction) read ∷ []) lines
     fine read true many none fits = absurd cc
     fine read false true none fits = absurd cc
     fine read false false none fits = refl
@@ -193,31 +193,31 @@ line-good before line lines none fits = go (line_read line) (wrong_on line) (lin
     go : (read : Result Line Mistake) (wrong : Option Wrong) → option_map (λ wrong. wrong.mistake) wrong ≡ error_in read →
         own_fault (length before + 1) wrong ++ told (is_twice before (read_or_halt line read).label) ≡ [] →
         is_one_too_many (length (steps_of before)) (read_or_halt line read).instruction ≡ false →
-        (told_at before (line_behind before read) >>= (λ one. lines_behind (before ++ one ∷ []) lines))
-        ≡ lines_behind (before ++ with_new_label before (read_or_halt line read) ∷ []) lines
+        (told_at before (line_behind before read) >>= (λ one. lines_behind wide (before ++ one ∷ []) lines))
+        ≡ lines_behind wide (before ++ with_new_label before (read_or_halt line read) ∷ []) lines
     go (Ok read) None same none fits = fine read (is_twice before read.label) (is_one_too_many (length (steps_of before)) read.instruction) none fits
     go (Ok read) (Some wrong) same none fits = absurd cc
     go (Err mistake) None same none fits = absurd cc
     go (Err mistake) (Some wrong) same none fits = absurd cc
 
 -- A line that is read has nothing wrong, and counts as what it is read as.
-pub read-counted : (text : List ℕ) (line : Line) → line_read text ≡ Ok line → (line ≡ counted text) × (wrong_on text ≡ None)
-read-counted text line is = (sym (ap (read_or_halt text) is), none (wrong_on text) (line-mistake text ∙ ap error_in is))
+pub read-counted : (wide : Bool) (text : List ℕ) (line : Line) → line_read wide text ≡ Ok line → (line ≡ counted wide text) × (wrong_on wide text ≡ None)
+read-counted wide text line is = (sym (ap (read_or_halt text) is), none (wrong_on wide text) (line-mistake wide text ∙ ap error_in is))
   where
     none : (wrong : Option Wrong) → option_map (λ wrong. wrong.mistake) wrong ≡ None → wrong ≡ None
     none None same = refl
     none (Some wrong) same = absurd cc
 
-pub unread-counted : (text : List ℕ) → is_ok (line_read text) ≡ false → counted text ≡ line_with (name_if_good (label_in (words_on text))) (Some (Alone Halt))
-unread-counted text is = go (line_read text) is
+pub unread-counted : (wide : Bool) (text : List ℕ) → is_ok (line_read wide text) ≡ false → counted wide text ≡ line_with (name_if_good (label_in (words_on text))) (Some (Alone Halt))
+unread-counted wide text is = go (line_read wide text) is
   where
     go : (read : Result Line Mistake) → is_ok read ≡ false → read_or_halt text read ≡ line_with (name_if_good (label_in (words_on text))) (Some (Alone Halt))
     go (Ok read) is = absurd cc
     go (Err mistake) is = refl
 
 -- A line with which nothing is wrong by itself is read as it counts.
-pub good-read : (text : List ℕ) (number : ℕ) → [] ≡ own_fault number (wrong_on text) → line_read text ≡ Ok (counted text)
-good-read text number good = go (line_read text) (wrong_on text) (line-mistake text) good
+pub good-read : (wide : Bool) (text : List ℕ) (number : ℕ) → [] ≡ own_fault number (wrong_on wide text) → line_read wide text ≡ Ok (counted wide text)
+good-read wide text number good = go (line_read wide text) (wrong_on wide text) (line-mistake wide text) good
   where
     go : (read : Result Line Mistake) (wrong : Option Wrong) → option_map (λ wrong. wrong.mistake) wrong ≡ error_in read → [] ≡ own_fault number wrong → read ≡ Ok (read_or_halt text read)
     go (Ok read) wrong same good = refl

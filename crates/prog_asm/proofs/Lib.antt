@@ -11,3 +11,4 @@ pub mod JudgedLaws
 pub mod JudgedCode
 pub mod Assembled
 pub mod SameInstructions
+pub mod WideRows

@@ -4,7 +4,7 @@ use denote.Struct.Values.{Values}
 use denote.Enum.Declared.{Choice}
 use denote.Enum.Compared.{Each, by}
 use Rattle.std.proofs.Common.{◌≡◌, ℕ, Bool, true, false, List, [], ◌∷◌, inl, inr, refl, ap, sym, ◌∙◌}
-use Rattle.std.specs.Prelude.{◌&&◌, bytes_eq, nat_eq}
+use Rattle.std.specs.Prelude.{◌&&◌, bytes_eq}
 use Rattle.std.specs.Cmp.Lexicographic.{same_text}
 use Rattle.std.proofs.lemmas.Bool.{eqb-true}
 use Rattle.std.specs.Bool.{beq}
@@ -142,7 +142,10 @@ same-call a b same =
                                                         λ x y same. refl,
                                                         (
                                                           λ x y same. refl,
-                                                          tt,
+                                                          (
+                                                            λ x y same. let h0 = both _ _ same in two programs.Use (same-operand x.0 y.0 h0.0) (same-rights x.1.0 y.1.0 h0.1),
+                                                            tt,
+                                                          ),
                                                         ),
                                                       ),
                                                     ),

@@ -27,8 +27,8 @@ pub record Drafts (lines : List Line) (draft : Draft) : Type 0 where
   pub labels : (name : List ℕ) → point_in draft.labels name ≡ labelled_from 0 name lines
 
 -- A draft in which nothing is wrong is that of all lines of the text.
-abbrev pub ReadsAll : List ℕ → Draft → Type 0
-ReadsAll text draft = faults_seen draft.faults.items ≡ [] → (lines : List Line) × (lines_behind [] (text_lines text) ≡ Ok lines) × Drafts lines draft
+abbrev pub ReadsAll : Bool → List ℕ → Draft → Type 0
+ReadsAll wide text draft = faults_seen draft.faults.items ≡ [] → (lines : List Line) × (lines_behind wide [] (text_lines text) ≡ Ok lines) × Drafts lines draft
 
 -- What is wrong with a line by itself is noted, and nothing else changes.
 pub record OwnAdded (before after : Draft) (own : List LineFault) : Type 0 where
@@ -56,13 +56,13 @@ StepAdded before after number instruction span false =
     (is_one_too_many (length before.steps.items) instruction ≡ true) × (faults_seen after.faults.items ≡ faults_seen before.faults.items ++ placed_fault TooMany number span ∷ [])
 
 -- What a line adds: its faults, and itself as it counts, or one instruction too many.
-abbrev pub JudgesLine : List Line → List ℕ → Draft → Draft → Bool → Type 0
-JudgesLine before line old new true =
-    (is_beyond before line ≡ false) × Drafts (before ++ with_new_label before (counted line) ∷ []) new
-    × (faults_seen new.faults.items ≡ faults_seen old.faults.items ++ faults_on before line)
-JudgesLine before line old new false =
-    (is_beyond before line ≡ true)
-    × (faults_seen new.faults.items ≡ faults_seen old.faults.items ++ faults_on before line ++ placed_fault TooMany (length before + 1) (instruction_place line) ∷ [])
+abbrev pub JudgesLine : Bool → List Line → List ℕ → Draft → Draft → Bool → Type 0
+JudgesLine wide before line old new true =
+    (is_beyond wide before line ≡ false) × Drafts (before ++ with_new_label before (counted wide line) ∷ []) new
+    × (faults_seen new.faults.items ≡ faults_seen old.faults.items ++ faults_on wide before line)
+JudgesLine wide before line old new false =
+    (is_beyond wide before line ≡ true)
+    × (faults_seen new.faults.items ≡ faults_seen old.faults.items ++ faults_on wide before line ++ placed_fault TooMany (length before + 1) (instruction_place line) ∷ [])
 
 -- the point that a name leads to, where an instruction follows its label
 abbrev pub below : ℕ → Option ℕ → Option ℕ

@@ -1,10 +1,10 @@
 -- The forms of `Forms` whose first operand is read already, of the instructions that begin with one. (own)
-use Rattle.std.specs.Prelude.{ℕ, List, None}
+use Rattle.std.specs.Prelude.{ℕ, Bool, List, None}
 use Rattle.rights.specs.Calls.{Call}
 use Rattle.rights.specs.Calls as calls
 use Rattle.instruction_set.specs.Programs.{Operand, Syscall}
 use Rattle.instruction_set.specs.Programs as programs
-use Rattle.instruction_set.specs.Forms.{Field, Mnemonic, Set, Mov, Add, In, Jeq, Jlt, Written, Alone, Leading, If_equal, If_less, commands_at, directory_at, flags_at, label_at, nothing}
+use Rattle.instruction_set.specs.Forms.{Field, Mnemonic, Set, Mov, Add, In, Jeq, Jlt, Written, Alone, Leading, If_equal, If_less, commands_at, directory_at, flags_at, further_at, label_at, nothing}
 use Rattle.instruction_set.specs.Forms.{number_at, one, operand_at, path_at, register_at, rights_at, two, ◌>>=◌}
 
 -- what nothing stands for
@@ -30,22 +30,23 @@ operand_call_at calls.Fcntl_setfl descriptor operand = nothing (programs.Fcntl_s
 operand_call_at call descriptor operand = refused
 
 -- the operands of a call behind its descriptor
-unfoldable pub descriptor_call_at : Call → Operand → Field Syscall
-descriptor_call_at calls.Read descriptor = nothing (programs.Read descriptor)
-descriptor_call_at calls.Write descriptor = one operand_at (programs.Write descriptor)
-descriptor_call_at calls.Sendfd descriptor = two operand_at operand_at (programs.Sendfd descriptor)
-descriptor_call_at calls.Recvfd descriptor = nothing (programs.Recvfd descriptor)
-descriptor_call_at calls.Lseek descriptor = one operand_at (programs.Lseek descriptor)
-descriptor_call_at calls.Ftruncate descriptor = one operand_at (programs.Ftruncate descriptor)
-descriptor_call_at calls.Fsync descriptor = nothing (programs.Fsync descriptor)
-descriptor_call_at calls.Fstat descriptor = nothing (programs.Fstat descriptor)
-descriptor_call_at calls.Fcntl_getfl descriptor = nothing (programs.Fcntl_getfl descriptor)
-descriptor_call_at calls.Fcntl_setfl descriptor = one operand_at (programs.Fcntl_setfl descriptor)
-descriptor_call_at calls.Dup descriptor = nothing (programs.Dup descriptor)
-descriptor_call_at calls.Close descriptor = nothing (programs.Close descriptor)
-descriptor_call_at calls.Cap_rights_limit descriptor = one rights_at (programs.Cap_rights_limit descriptor)
-descriptor_call_at calls.Cap_fcntls_limit descriptor = one commands_at (programs.Cap_fcntls_limit descriptor)
-descriptor_call_at call descriptor = λ words. path_at words >>= (λ path. at_call_at call descriptor path.0 path.1)
+unfoldable pub descriptor_call_at : Bool → Call → Operand → Field Syscall
+descriptor_call_at wide calls.Read descriptor = nothing (programs.Read descriptor)
+descriptor_call_at wide calls.Write descriptor = one operand_at (programs.Write descriptor)
+descriptor_call_at wide calls.Sendfd descriptor = two operand_at operand_at (programs.Sendfd descriptor)
+descriptor_call_at wide calls.Recvfd descriptor = nothing (programs.Recvfd descriptor)
+descriptor_call_at wide calls.Lseek descriptor = one operand_at (programs.Lseek descriptor)
+descriptor_call_at wide calls.Ftruncate descriptor = one operand_at (programs.Ftruncate descriptor)
+descriptor_call_at wide calls.Fsync descriptor = nothing (programs.Fsync descriptor)
+descriptor_call_at wide calls.Fstat descriptor = nothing (programs.Fstat descriptor)
+descriptor_call_at wide calls.Fcntl_getfl descriptor = nothing (programs.Fcntl_getfl descriptor)
+descriptor_call_at wide calls.Fcntl_setfl descriptor = one operand_at (programs.Fcntl_setfl descriptor)
+descriptor_call_at wide calls.Dup descriptor = nothing (programs.Dup descriptor)
+descriptor_call_at wide calls.Close descriptor = nothing (programs.Close descriptor)
+descriptor_call_at wide calls.Cap_rights_limit descriptor = one (rights_at wide) (programs.Cap_rights_limit descriptor)
+descriptor_call_at wide calls.Cap_fcntls_limit descriptor = one commands_at (programs.Cap_fcntls_limit descriptor)
+descriptor_call_at wide calls.Use descriptor = one further_at (programs.Use descriptor)
+descriptor_call_at wide call descriptor = λ words. path_at words >>= (λ path. at_call_at call descriptor path.0 path.1)
 
 -- the operands of a call behind its path
 abbrev pub path_call_at : Call → List ℕ → Field Syscall

@@ -1,5 +1,5 @@
 -- All that is wrong with a text of the language, and where. A line that is wrong by itself counts as a `halt` behind its label, and a second label as none, so
--- what stands on the other lines is judged as if these were mended. The first is the fault of `assembly_of`. (own)
+-- what stands on the other lines is judged as if these were mended. The first is the fault of `assembly_in`. (own)
 use Rattle.std.specs.Prelude.{ℕ, ◌+◌, ◌-◌, ◌==◌, Bool, false, not, ◌||◌, List, [], ◌∷◌, ◌++◌, length, map, Option, Some, None, is_none, is_some, option_map, Result, Ok, Err, if◌then◌else◌}
 use Rattle.std.specs.List.{flat_map, slice_get}
 use Rattle.texts.specs.Bytes.{colon}
@@ -59,22 +59,22 @@ operand_place word (operand ∷ operands) n = if n == 0 then operand.span else o
 abbrev pub unfit_operand : Word → List Word → Unfit → Wrong
 unfit_operand word operands found = record { mistake = Operand; span = operand_place word operands found.fit; wants = found.wants }
 
-abbrev pub wrong_operand : Option Mnemonic → Word → List Word → Option Wrong
-wrong_operand None word operands = Some (wrong_word word.span)
-wrong_operand (Some mnemonic) word operands = option_map (unfit_operand word operands) (first_unfit (forms_of mnemonic) (map (λ operand. operand.text) operands))
+abbrev pub wrong_operand : Bool → Option Mnemonic → Word → List Word → Option Wrong
+wrong_operand wide None word operands = Some (wrong_word word.span)
+wrong_operand wide (Some mnemonic) word operands = option_map (unfit_operand word operands) (first_unfit (forms_of wide mnemonic) (map (λ operand. operand.text) operands))
 
-abbrev pub wrong_instruction : List Word → Option Wrong
-wrong_instruction [] = None
-wrong_instruction (word ∷ operands) = wrong_operand (mnemonic_of word.text) word operands
+abbrev pub wrong_instruction : Bool → List Word → Option Wrong
+wrong_instruction wide [] = None
+wrong_instruction wide (word ∷ operands) = wrong_operand wide (mnemonic_of wide word.text) word operands
 
-abbrev pub wrong_in : Option Span → Option Span → List Word → Option Wrong
-wrong_in (Some label) stray words = Some (wrong_word label)
-wrong_in None (Some stray) words = Some (wrong_word stray)
-wrong_in None None words = wrong_instruction words
+abbrev pub wrong_in : Bool → Option Span → Option Span → List Word → Option Wrong
+wrong_in wide (Some label) stray words = Some (wrong_word label)
+wrong_in wide None (Some stray) words = Some (wrong_word stray)
+wrong_in wide None None words = wrong_instruction wide words
 
--- what is wrong with a line by itself
-abbrev pub wrong_on : List ℕ → Option Wrong
-wrong_on line = wrong_in (bad_label (label_in (words_on line))) (stray_in (uncommented line)) (behind_label (words_on line))
+-- what is wrong with a line by itself, in the wide language or the other
+abbrev pub wrong_on : Bool → List ℕ → Option Wrong
+wrong_on wide line = wrong_in wide (bad_label (label_in (words_on line))) (stray_in (uncommented line)) (behind_label (words_on line))
 
 -- where the label of a line stands, its instruction's word, and its last word; at its beginning where it has none
 abbrev pub no_place : Span
@@ -118,23 +118,23 @@ abbrev pub read_or_halt : List ℕ → Result Line Mistake → Line
 read_or_halt line (Ok read) = read
 read_or_halt line (Err mistake) = line_with (name_if_good (label_in (words_on line))) (Some (Alone Halt))
 
-abbrev pub counted : List ℕ → Line
-counted line = read_or_halt line (line_read line)
+abbrev pub counted : Bool → List ℕ → Line
+counted wide line = read_or_halt line (line_read wide line)
 
 abbrev pub with_new_label : List Line → Line → Line
 with_new_label before line = if is_twice before line.label then line_with None line.instruction else line
 
 -- a label that a line before has already; an instruction that has 256 before it
-abbrev pub second_label : List Line → ℕ → List ℕ → List LineFault
-second_label before number line =
-    if is_twice before (counted line).label then placed_fault TwiceLabel number (label_place (label_in (words_on line))) ∷ [] else []
+abbrev pub second_label : Bool → List Line → ℕ → List ℕ → List LineFault
+second_label wide before number line =
+    if is_twice before (counted wide line).label then placed_fault TwiceLabel number (label_place (label_in (words_on line))) ∷ [] else []
 
-abbrev pub is_beyond : List Line → List ℕ → Bool
-is_beyond before line = is_one_too_many (length (steps_of before)) (counted line).instruction
+abbrev pub is_beyond : Bool → List Line → List ℕ → Bool
+is_beyond wide before line = is_one_too_many (length (steps_of before)) (counted wide line).instruction
 
 -- what is wrong with a line behind others, but for an instruction too many
-abbrev pub faults_on : List Line → List ℕ → List LineFault
-faults_on before line = own_fault (length before + 1) (wrong_on line) ++ second_label before (length before + 1) line
+abbrev pub faults_on : Bool → List Line → List ℕ → List LineFault
+faults_on wide before line = own_fault (length before + 1) (wrong_on wide line) ++ second_label wide before (length before + 1) line
 
 -- the lines of a text by their numbers
 abbrev pub line_or_none : Option (List ℕ) → List ℕ
@@ -172,15 +172,15 @@ abbrev pub faults_together : List (List ℕ) → List Line → List LineFault
 faults_together lines read = flat_map (missing_label lines (point_named read)) (steps_of read) ++ falls_off lines (steps_of read)
 
 -- What is wrong from some lines on, behind others; behind an instruction too many nothing is looked at.
-abbrev pub faults_behind : List (List ℕ) → List Line → List (List ℕ) → List LineFault
-faults_behind all before [] = faults_together all before
-faults_behind all before (line ∷ lines) =
-    faults_on before line
-    ++ (if is_beyond before line then placed_fault TooMany (length before + 1) (instruction_place line) ∷ []
-    else faults_behind all (before ++ with_new_label before (counted line) ∷ []) lines)
+abbrev pub faults_behind : Bool → List (List ℕ) → List Line → List (List ℕ) → List LineFault
+faults_behind wide all before [] = faults_together all before
+faults_behind wide all before (line ∷ lines) =
+    faults_on wide before line
+    ++ (if is_beyond wide before line then placed_fault TooMany (length before + 1) (instruction_place line) ∷ []
+    else faults_behind wide all (before ++ with_new_label before (counted wide line) ∷ []) lines)
 
-abbrev pub faults_of : List ℕ → List LineFault
-faults_of text = faults_behind (text_lines text) [] (text_lines text)
+abbrev pub faults_of : Bool → List ℕ → List LineFault
+faults_of wide text = faults_behind wide (text_lines text) [] (text_lines text)
 
 -- the first of these, and the fault of a text that is no program
 abbrev pub first_fault : List LineFault → Option Fault

@@ -1,9 +1,9 @@
 -- What stands where on a line, and when a text is the line of an instruction. (own)
-use Rattle.std.specs.Prelude.{◌≡◌, ℕ, List, [], ◌∷◌, Option, Some, None, Ok, option_map}
+use Rattle.std.specs.Prelude.{◌≡◌, ℕ, Bool, List, [], ◌∷◌, Option, Some, None, Ok, option_map}
 use Rattle.instruction_set.specs.Assembly.{line_read, line_with, placed}
 use Rattle.instruction_set.specs.Forms.{Written}
-use Rattle.instruction_set.specs.Programs.{Instruction, Set, Mov, Add, In, Jmp, Jeq, Jlt, Halt, Invoke}
-use Rattle.prog_asm.specs.LineFaults.{behind_label, first_place, label_in, last_place}
+use Rattle.instruction_set.specs.Programs.{Instruction, Jmp, Jeq, Jlt, Invoke}
+use Rattle.prog_asm.specs.LineFaults.{behind_label, label_in, last_place}
 use Rattle.prog_asm.specs.WordPlaces.{Span, Word, words_on}
 
 -- where its label stands, without the colon
@@ -32,8 +32,8 @@ pub record IsWritten (found : Option Written) (instruction : Instruction) : Type
   pub there : found ≡ Some written
   pub same : placed (λ name. Some (led_point instruction)) written ≡ Some instruction
 
--- A text by itself is the line of an instruction, without a label.
-pub record IsLineOf (text : List ℕ) (instruction : Instruction) : Type 0 where
+-- A text by itself is the line of an instruction, without a label, in the wide language or the other.
+pub record IsLineOf (wide : Bool) (text : List ℕ) (instruction : Instruction) : Type 0 where
   pub found : Option Written
-  pub read : line_read text ≡ Ok (line_with None found)
+  pub read : line_read wide text ≡ Ok (line_with None found)
   pub instruction_is : IsWritten found instruction

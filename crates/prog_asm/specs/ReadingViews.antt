@@ -1,5 +1,5 @@
 -- What the code's reading comes to, want of memory aside.
-use Rattle.std.specs.Prelude.{◌≡◌, ℕ, false, List, Option, Some, None, Result, Ok, Err, is_ok, if◌then◌else◌}
+use Rattle.std.specs.Prelude.{◌≡◌, ℕ, Bool, false, List, Option, Some, None, Result, Ok, Err, is_ok, if◌then◌else◌}
 use Rattle.prog_asm.specs.declared.mistakes.Mistake.{Mistake as MistakeCode}
 use Rattle.prog_asm.specs.declared.mistakes.Mistake.TheVariants as code
 use Rattle.texts.specs.Names.{is_name}
@@ -26,7 +26,7 @@ ReadsAssembly view (Ok x) read = read ≡ Ok (view x)
 ReadsAssembly view (Err mistake) read = FailsReading mistake read
 
 -- The line with this label and these words behind it, in which a byte stands that no word has, or none.
-abbrev pub line_of_parts : Option Span → Option Word → List (List ℕ) → Result Line Mistake
-line_of_parts (Some stray) label words = Err assembly.Word
-line_of_parts None None words = with_label None (instruction_in words)
-line_of_parts None (Some label) words = if is_name label.text then with_label (Some label.text) (instruction_in words) else Err assembly.Word
+abbrev pub line_of_parts : Bool → Option Span → Option Word → List (List ℕ) → Result Line Mistake
+line_of_parts wide (Some stray) label words = Err assembly.Word
+line_of_parts wide None None words = with_label None (instruction_in wide words)
+line_of_parts wide None (Some label) words = if is_name label.text then with_label (Some label.text) (instruction_in wide words) else Err assembly.Word

@@ -1,8 +1,8 @@
 //! Texts to programs.
 
-ghost use Rattle.std.specs.Prelude.{◌≡◌, ◌≤◌, IfOk, length, map, option_map};
+ghost use Rattle.std.specs.Prelude.{◌≡◌, ◌≤◌, true, IfOk, length, map, option_map};
 ghost use Rattle.std.specs.List.{filter_map};
-ghost use Rattle.instruction_set.specs.Assembly.{assembly_of, placed};
+ghost use Rattle.instruction_set.specs.Assembly.{assembly_in, assembly_of, placed};
 ghost use Rattle.instruction_set.specs.Views.{code_of, instruction_of};
 ghost use Rattle.prog_asm.specs.DraftViews.{below, draft_point, step_from};
 ghost use Rattle.prog_asm.specs.FaultViews.{Gives};
@@ -64,7 +64,23 @@ fn place_all(alloc: Global, draft: Draft<'_>) -> Result<Vec<Instruction>, AllocE
 pub fn assemble(alloc: Global, text: &str) -> Result<Program, AsmFault>
     ensures { Gives (λ program. program) result (assembly_of text.now) }
 {
-    let draft = judge(alloc, text.as_bytes())?;
+    assemble_in(alloc, false, text)
+}
+
+/// Assembles a text of the wide language, which has `use` and in which a limit may name further rights. (own)
+///
+/// It answers as `assemble` does.
+pub fn assemble_wide(alloc: Global, text: &str) -> Result<Program, AsmFault>
+    ensures { Gives (λ program. program) result (assembly_in true text.now) }
+{
+    assemble_in(alloc, true, text)
+}
+
+/// Assembles a text of the wide language or of the other.
+fn assemble_in(alloc: Global, wide: bool, text: &str) -> Result<Program, AsmFault>
+    ensures { Gives (λ program. program) result (assembly_in wide text.now) }
+{
+    let draft = judge(alloc, wide, text.as_bytes())?;
     if let Some(fault) = draft.faults.first() {
         return Err(fault.first());
     }

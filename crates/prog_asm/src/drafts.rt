@@ -109,17 +109,18 @@ impl<'t> Draft<'t> {
         Ok(true)
     }
 
-    /// Adds the line of this number. Whether lines behind it are looked at.
+    /// Adds the line of this number, in the wide language or the other. Whether lines behind it are looked at.
     pub(crate) fn add_line(
         &mut self,
         alloc: Global,
+        wide: bool,
         number: usize,
         text: &'t [u8],
     ) -> Result<bool, AllocError>
         ensures { (before : List LineRead) → Drafts before self.old → number ≡ length before + 1
-            → IfOk result (JudgesLine before text.entry.now self.old self.new) }
+            → IfOk result (JudgesLine wide before text.entry.now self.old self.new) }
     {
-        let seen = look(alloc, number, text)?;
+        let seen = look(alloc, wide, number, text)?;
         self.add_own(seen.wrong)?;
         self.add_label(number, seen.line.label, seen.label)?;
         self.add_step(number, seen.line.instruction, seen.instruction)

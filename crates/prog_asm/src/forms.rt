@@ -1,16 +1,17 @@
 //! What each instruction wants behind its word. A new instruction is a line of `MNEMONICS` and one of
-//! `Words::written` or `Words::syscall`, or of what these call once its first operand is read.
+//! `Words::written` or `Words::syscall`, or of what these call once its first operand is read. The
+//! operands of calls are read in `call_forms`.
 
 ghost use Rattle.std.specs.Prelude.{◌≡◌, Some};
 ghost use Rattle.rights.specs.Views.{call_of};
-ghost use Rattle.prog_asm.specs.FormParts.{at_call_at, comparison_at, descriptor_call_at, operand_call_at, path_call_at, register_form_at};
+ghost use Rattle.prog_asm.specs.FormParts.{comparison_at, register_form_at};
 ghost use Rattle.prog_asm.specs.FormViews.{TakesField, TakesWord, jump_from, mnemonic_from, written_from};
 ghost use Rattle.instruction_set.specs.Assembly.{placed};
-ghost use Rattle.instruction_set.specs.Forms.{Make, commands_at, directory_at, else_at, flags_at, label_at, led, number_at};
-ghost use Rattle.instruction_set.specs.Forms.{operand_at, path_at, register_at, rights_at, syscall_at, whole, written_at, written_of};
+ghost use Rattle.instruction_set.specs.Forms.{Make, commands_at, directory_at, else_at, flags_at, further_at, label_at, led, number_at};
+ghost use Rattle.instruction_set.specs.Forms.{operand_at, path_at, register_at, rights_at, whole, written_at, written_of};
 ghost use Rattle.prog_asm.specs.LineViews.{texts_of};
 ghost use Rattle.prog_asm.specs.ReadingViews.{ReadsField};
-ghost use Rattle.instruction_set.specs.Views.{instruction_of, operand_of, syscall_of};
+ghost use Rattle.instruction_set.specs.Views.{instruction_of, operand_of};
 
 use crate::lines::Word;
 use crate::mistakes::Mistake;
@@ -164,7 +165,7 @@ impl<'w, 't> Words<'w, 't> {
 
     /// A register or a number.
     #[tactic(auto, unfolding(instruction_set::specs::Forms::operand_at))]
-    fn operand(&mut self) -> Result<Operand, Mistake>
+    pub(crate) fn operand(&mut self) -> Result<Operand, Mistake>
         ensures { TakesField operand_of result self.new (operand_at self.old) }
     {
         fields::operand(self.word()?).ok_or(Mistake::Wrong)
@@ -172,7 +173,7 @@ impl<'w, 't> Words<'w, 't> {
 
     /// A path in double quotes.
     #[tactic(auto, unfolding(instruction_set::specs::Forms::path_at))]
-    fn path(&mut self) -> Result<Path, Mistake>
+    pub(crate) fn path(&mut self) -> Result<Path, Mistake>
         ensures { TakesField (λ path. path) result self.new (path_at self.old) }
     {
         let alloc = self.alloc;
@@ -181,23 +182,31 @@ impl<'w, 't> Words<'w, 't> {
 
     /// The flags of an open.
     #[tactic(auto, unfolding(instruction_set::specs::Forms::flags_at))]
-    fn flags(&mut self) -> Result<OpenFlags, Mistake>
+    pub(crate) fn flags(&mut self) -> Result<OpenFlags, Mistake>
         ensures { TakesField (λ flags. flags) result self.new (flags_at self.old) }
     {
         lists::flags(self.word()?).ok_or(Mistake::Wrong)
     }
 
-    /// A list of rights.
+    /// A list of rights, further ones among them in the wide language.
     #[tactic(auto, unfolding(instruction_set::specs::Forms::rights_at))]
-    fn rights(&mut self) -> Result<Rights, Mistake>
-        ensures { TakesField (λ rights. rights.0) result self.new (rights_at self.old) }
+    pub(crate) fn rights(&mut self, wide: bool) -> Result<Rights, Mistake>
+        ensures { TakesField (λ rights. rights.0) result self.new (rights_at wide self.old) }
     {
-        lists::rights(self.word()?).ok_or(Mistake::Wrong)
+        lists::rights(self.word()?, wide).ok_or(Mistake::Wrong)
+    }
+
+    /// One further right.
+    #[tactic(auto, unfolding(instruction_set::specs::Forms::further_at))]
+    pub(crate) fn further_right(&mut self) -> Result<Rights, Mistake>
+        ensures { TakesField (λ right. right.0) result self.new (further_at self.old) }
+    {
+        lists::further_right(self.word()?).ok_or(Mistake::Wrong)
     }
 
     /// A list of fcntl commands.
     #[tactic(auto, unfolding(instruction_set::specs::Forms::commands_at))]
-    fn commands(&mut self) -> Result<Fcntls, Mistake>
+    pub(crate) fn commands(&mut self) -> Result<Fcntls, Mistake>
         ensures { TakesField (λ commands. commands.0) result self.new (commands_at self.old) }
     {
         lists::commands(self.word()?).ok_or(Mistake::Wrong)
@@ -218,7 +227,7 @@ impl<'w, 't> Words<'w, 't> {
 
     /// The word `dir`, or nothing: whether it is there.
     #[tactic(auto, unfolding(instruction_set::specs::Forms::directory_at))]
-    fn directory(&mut self) -> bool
+    pub(crate) fn directory(&mut self) -> bool
         ensures { directory_at self.old ≡ Some (result, self.new) }
     {
         match self.rest {
@@ -242,245 +251,12 @@ impl<'w, 't> Words<'w, 't> {
         }
     }
 
-    /// The operands of a call behind its descriptor and its path. A call without these is refused.
-    #[tactic(auto, unfolding(crate::specs::FormParts::at_call_at))]
-    fn at_call(&mut self, call: Call, descriptor: Operand, path: Path) -> Result<Syscall, Mistake>
-        ensures { TakesField syscall_of result self.new
-            (at_call_at (call_of call) (operand_of descriptor) path self.old) }
-    {
-        Ok(match call {
-            Call::Openat => Syscall::Openat {
-                descriptor,
-                path,
-                flags: self.flags()?,
-            },
-            Call::Fstatat => Syscall::Fstatat { descriptor, path },
-            Call::Mkdirat => Syscall::Mkdirat { descriptor, path },
-            Call::Unlinkat => Syscall::Unlinkat {
-                descriptor,
-                path,
-                directory: self.directory(),
-            },
-            Call::Renameat => Syscall::Renameat {
-                descriptor,
-                path,
-                target: self.operand()?,
-                new_path: self.path()?,
-            },
-            Call::Open
-            | Call::Read
-            | Call::Write
-            | Call::Sendfd
-            | Call::Recvfd
-            | Call::Lseek
-            | Call::Ftruncate
-            | Call::Fsync
-            | Call::Fstat
-            | Call::FcntlGetfl
-            | Call::FcntlSetfl
-            | Call::Stat
-            | Call::Mkdir
-            | Call::Unlink
-            | Call::Dup
-            | Call::Close
-            | Call::CapRightsLimit
-            | Call::CapFcntlsLimit
-            | Call::CapEnter
-            | Call::CapGetmode
-            | Call::Socketpair
-            | Call::Fork => return Err(Mistake::Wrong),
-        })
-    }
-
-    /// The operands of a call behind its descriptor and an operand more. A call without these is refused.
-    #[tactic(auto, unfolding(crate::specs::FormParts::operand_call_at))]
-    fn operand_call(
-        &mut self,
-        call: Call,
-        descriptor: Operand,
-        operand: Operand,
-    ) -> Result<Syscall, Mistake>
-        ensures { TakesField syscall_of result self.new
-            (operand_call_at (call_of call) (operand_of descriptor) (operand_of operand) self.old) }
-    {
-        Ok(match call {
-            Call::Write => Syscall::Write {
-                descriptor,
-                value: operand,
-            },
-            Call::Sendfd => Syscall::Sendfd {
-                descriptor,
-                sent: operand,
-                value: self.operand()?,
-            },
-            Call::Lseek => Syscall::Lseek {
-                descriptor,
-                offset: operand,
-            },
-            Call::Ftruncate => Syscall::Ftruncate {
-                descriptor,
-                len: operand,
-            },
-            Call::FcntlSetfl => Syscall::FcntlSetfl {
-                descriptor,
-                flags: operand,
-            },
-            Call::Open
-            | Call::Openat
-            | Call::Read
-            | Call::Recvfd
-            | Call::Fsync
-            | Call::Fstat
-            | Call::FcntlGetfl
-            | Call::Fstatat
-            | Call::Stat
-            | Call::Mkdirat
-            | Call::Mkdir
-            | Call::Unlinkat
-            | Call::Unlink
-            | Call::Renameat
-            | Call::Dup
-            | Call::Close
-            | Call::CapRightsLimit
-            | Call::CapFcntlsLimit
-            | Call::CapEnter
-            | Call::CapGetmode
-            | Call::Socketpair
-            | Call::Fork => return Err(Mistake::Wrong),
-        })
-    }
-
-    /// The operands of a call behind its descriptor. A call that has no descriptor is refused.
-    #[tactic(auto, unfolding(crate::specs::FormParts::descriptor_call_at, crate::specs::FormParts::operand_call_at))]
-    fn descriptor_call(&mut self, call: Call, descriptor: Operand) -> Result<Syscall, Mistake>
-        ensures { TakesField syscall_of result self.new
-            (descriptor_call_at (call_of call) (operand_of descriptor) self.old) }
-    {
-        Ok(match call {
-            Call::Read => Syscall::Read { descriptor },
-            Call::Recvfd => Syscall::Recvfd { descriptor },
-            Call::Fsync => Syscall::Fsync { descriptor },
-            Call::Fstat => Syscall::Fstat { descriptor },
-            Call::FcntlGetfl => Syscall::FcntlGetfl { descriptor },
-            Call::Dup => Syscall::Dup { descriptor },
-            Call::Close => Syscall::Close { descriptor },
-            Call::CapRightsLimit => Syscall::CapRightsLimit {
-                descriptor,
-                rights: self.rights()?,
-            },
-            Call::CapFcntlsLimit => Syscall::CapFcntlsLimit {
-                descriptor,
-                commands: self.commands()?,
-            },
-            Call::Write | Call::Sendfd | Call::Lseek | Call::Ftruncate | Call::FcntlSetfl => {
-                let operand = self.operand()?;
-                return self.operand_call(call, descriptor, operand);
-            }
-            Call::Open
-            | Call::Openat
-            | Call::Fstatat
-            | Call::Stat
-            | Call::Mkdirat
-            | Call::Mkdir
-            | Call::Unlinkat
-            | Call::Unlink
-            | Call::Renameat
-            | Call::CapEnter
-            | Call::CapGetmode
-            | Call::Socketpair
-            | Call::Fork => {
-                let path = self.path()?;
-                return self.at_call(call, descriptor, path);
-            }
-        })
-    }
-
-    /// The operands of a call behind its path. A call that does not begin with one is refused.
-    fn path_call(&mut self, call: Call, path: Path) -> Result<Syscall, Mistake>
-        ensures { TakesField syscall_of result self.new (path_call_at (call_of call) path self.old) }
-    {
-        Ok(match call {
-            Call::Open => Syscall::Open {
-                path,
-                flags: self.flags()?,
-            },
-            Call::Stat => Syscall::Stat { path },
-            Call::Mkdir => Syscall::Mkdir { path },
-            Call::Unlink => Syscall::Unlink {
-                path,
-                directory: self.directory(),
-            },
-            Call::Openat
-            | Call::Read
-            | Call::Write
-            | Call::Sendfd
-            | Call::Recvfd
-            | Call::Lseek
-            | Call::Ftruncate
-            | Call::Fsync
-            | Call::Fstat
-            | Call::FcntlGetfl
-            | Call::FcntlSetfl
-            | Call::Fstatat
-            | Call::Mkdirat
-            | Call::Unlinkat
-            | Call::Renameat
-            | Call::Dup
-            | Call::Close
-            | Call::CapRightsLimit
-            | Call::CapFcntlsLimit
-            | Call::CapEnter
-            | Call::CapGetmode
-            | Call::Socketpair
-            | Call::Fork => return Err(Mistake::Wrong),
-        })
-    }
-
-    /// The operands of a call.
-    #[tactic(auto, unfolding(instruction_set::specs::Forms::syscall_at, crate::specs::FormParts::descriptor_call_at, crate::specs::FormParts::operand_call_at, crate::specs::FormParts::at_call_at))]
-    fn syscall(&mut self, call: Call) -> Result<Syscall, Mistake>
-        ensures { TakesField syscall_of result self.new (syscall_at (call_of call) self.old) }
-    {
-        match call {
-            Call::CapEnter => Ok(Syscall::CapEnter),
-            Call::CapGetmode => Ok(Syscall::CapGetmode),
-            Call::Socketpair => Ok(Syscall::Socketpair),
-            Call::Fork => Ok(Syscall::Fork),
-            Call::Open | Call::Stat | Call::Mkdir | Call::Unlink => {
-                let path = self.path()?;
-                self.path_call(call, path)
-            }
-            Call::Openat
-            | Call::Read
-            | Call::Write
-            | Call::Sendfd
-            | Call::Recvfd
-            | Call::Lseek
-            | Call::Ftruncate
-            | Call::Fsync
-            | Call::Fstat
-            | Call::FcntlGetfl
-            | Call::FcntlSetfl
-            | Call::Fstatat
-            | Call::Mkdirat
-            | Call::Unlinkat
-            | Call::Renameat
-            | Call::Dup
-            | Call::Close
-            | Call::CapRightsLimit
-            | Call::CapFcntlsLimit => {
-                let descriptor = self.operand()?;
-                self.descriptor_call(call, descriptor)
-            }
-        }
-    }
-
-    /// The operands of a call, and where it leads after an error.
+    /// The operands of a call in the wide language or the other, and where it leads after an error.
     #[tactic(auto, unfolding(instruction_set::specs::Forms::written_at, crate::specs::FormViews::written_from))]
-    fn invocation(&mut self, call: Call) -> Result<Written<'t>, Mistake>
-        ensures { TakesField written_from result self.new (written_at (Make (call_of call)) self.old) }
+    fn invocation(&mut self, wide: bool, call: Call) -> Result<Written<'t>, Mistake>
+        ensures { TakesField written_from result self.new (written_at wide (Make (call_of call)) self.old) }
     {
-        let call = self.syscall(call)?;
+        let call = self.syscall(wide, call)?;
         self.otherwise().map(|label| Written::Leading {
             jump: Jump::AfterError { call },
             label,
@@ -531,10 +307,10 @@ impl<'w, 't> Words<'w, 't> {
         })
     }
 
-    /// The operands of an instruction.
+    /// The operands of an instruction, in the wide language or the other.
     #[tactic(auto, unfolding(instruction_set::specs::Forms::written_at, crate::specs::FormParts::register_form_at, crate::specs::FormParts::comparison_at, crate::specs::FormViews::written_from))]
-    fn written(&mut self, mnemonic: Mnemonic) -> Result<Written<'t>, Mistake>
-        ensures { TakesField written_from result self.new (written_at (mnemonic_from mnemonic) self.old) }
+    fn written(&mut self, wide: bool, mnemonic: Mnemonic) -> Result<Written<'t>, Mistake>
+        ensures { TakesField written_from result self.new (written_at wide (mnemonic_from mnemonic) self.old) }
     {
         match mnemonic {
             Mnemonic::Jmp => {
@@ -545,7 +321,7 @@ impl<'w, 't> Words<'w, 't> {
                 })
             }
             Mnemonic::Halt => Ok(Written::Halt),
-            Mnemonic::Make(call) => self.invocation(call),
+            Mnemonic::Make(call) => self.invocation(wide, call),
             _ => {
                 let register = self.register()?;
                 self.register_form(mnemonic, register)
@@ -554,16 +330,17 @@ impl<'w, 't> Words<'w, 't> {
     }
 }
 
-/// The instruction that the words behind its own stand for, all of them.
+/// The instruction that the words behind its own stand for, all of them, in the wide language or the other.
 pub(crate) fn read_written<'t>(
     alloc: Global,
+    wide: bool,
     mnemonic: Mnemonic,
     operands: &[Word<'t>],
 ) -> Result<Written<'t>, Mistake>
     ensures { ReadsField written_from result
-        (written_of (mnemonic_from mnemonic) (texts_of operands.now)) }
+        (written_of wide (mnemonic_from mnemonic) (texts_of operands.now)) }
 {
     let mut words = Words::new(alloc, operands);
-    let written = words.written(mnemonic)?;
+    let written = words.written(wide, mnemonic)?;
     words.whole(written)
 }

@@ -1,7 +1,7 @@
 //! All that is wrong with a text, and where.
 
 ghost use Rattle.std.specs.Prelude.{◌≡◌, IfOk, List, map, option_map};
-ghost use Rattle.instruction_set.specs.Assembly.{Line as LineRead, assembly_of};
+ghost use Rattle.instruction_set.specs.Assembly.{Line as LineRead, assembly_in};
 ghost use Rattle.prog_asm.specs.DraftViews.{Drafts, ReadsAll, draft_point, step_from};
 ghost use Rattle.prog_asm.specs.FaultPlaceViews.{fault_seen, faults_seen, list_of};
 ghost use Rattle.prog_asm.specs.FormViews.{written_from};
@@ -131,15 +131,15 @@ fn lines_in(alloc: Global, text: &[u8]) -> Result<Vec<&[u8]>, AllocError>
     Ok(lines)
 }
 
-/// Judges the lines of a text, one after another and then all together.
-pub(crate) fn judge<'t>(alloc: Global, text: &'t [u8]) -> Result<Draft<'t>, AllocError>
-    ensures faults { IfOk result (λ draft. faults_seen draft.faults.items ≡ faults_of text.entry.now) }
-    ensures read { IfOk result (ReadsAll text.entry.now) }
+/// Judges the lines of a text of the wide language or the other, one after another and then all together.
+pub(crate) fn judge<'t>(alloc: Global, wide: bool, text: &'t [u8]) -> Result<Draft<'t>, AllocError>
+    ensures faults { IfOk result (λ draft. faults_seen draft.faults.items ≡ faults_of wide text.entry.now) }
+    ensures read { IfOk result (ReadsAll wide text.entry.now) }
 {
     let lines = lines_in(alloc, text)?;
     let mut draft = Draft::new(alloc);
     for (at, line) in lines.iter().enumerate() {
-        if !draft.add_line(alloc, at + 1, line)? {
+        if !draft.add_line(alloc, wide, at + 1, line)? {
             return Ok(draft);
         }
     }
@@ -148,14 +148,14 @@ pub(crate) fn judge<'t>(alloc: Global, text: &'t [u8]) -> Result<Draft<'t>, Allo
     Ok(draft)
 }
 
-/// All that is wrong with a text of the language, and where; nothing where it is a program's. (own)
+/// All that is wrong with a text of the wide language or of the other, and where; nothing where it is a program's. (own)
 ///
 /// What is wrong with a line by itself is told of each, and where the text lies that is meant; then that it has a label of a line before, and
 /// that it has the 257th instruction, behind which nothing is looked at. Then come missing labels and an end that the program runs past. A line
-/// that is wrong by itself counts as one instruction, and its label, if it is good, as a label. The first of these is what `assemble` answers.
-pub fn line_faults(alloc: Global, text: &[u8]) -> Result<Vec<LineFault>, AllocError>
-    ensures faults { IfOk result (λ faults. faults_seen faults.items ≡ faults_of text.now) }
-    ensures first { IfOk result (λ faults. first_fault (faults_seen faults.items) ≡ fault_in (assembly_of text.now)) }
+/// that is wrong by itself counts as one instruction, and its label, if it is good, as a label. The first of these is what `assemble_wide` or `assemble` answers.
+pub fn line_faults(alloc: Global, wide: bool, text: &[u8]) -> Result<Vec<LineFault>, AllocError>
+    ensures faults { IfOk result (λ faults. faults_seen faults.items ≡ faults_of wide text.now) }
+    ensures first { IfOk result (λ faults. first_fault (faults_seen faults.items) ≡ fault_in (assembly_in wide text.now)) }
 {
-    Ok(judge(alloc, text)?.faults)
+    Ok(judge(alloc, wide, text)?.faults)
 }

@@ -2,6 +2,7 @@
 #![tactic(auto)]
 
 mod assembler;
+mod call_forms;
 mod drafts;
 pub mod faults;
 mod fields;
@@ -16,7 +17,7 @@ mod operand_forms;
 mod statements;
 mod wrongs;
 
-pub use assembler::assemble;
+pub use assembler::{assemble, assemble_wide};
 pub use faults::{AsmFault, LineFault, LineMistake};
 pub use instruction_set::{Instruction, Operand, Path, Program, Register, Syscall, is_valid_path};
 pub use judging::line_faults;

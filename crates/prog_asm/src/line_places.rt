@@ -72,11 +72,17 @@ fn is_written(written: Option<Written<'_>>, instruction: &Instruction) -> bool
     written.led(target) == *instruction
 }
 
-/// Whether a text by itself is the line of an instruction, without a label, wherever the label leads that it names. (own)
-pub fn is_line_of(alloc: Global, text: &[u8], instruction: &Instruction) -> Result<bool, AllocError>
-    ensures { IfOk result (λ is. is ≡ true → IsLineOf text.now (instruction_of instruction.now)) }
+/// Whether a text by itself is the line of an instruction in the wide language or the other, without a label, wherever the
+/// label leads that it names. (own)
+pub fn is_line_of(
+    alloc: Global,
+    wide: bool,
+    text: &[u8],
+    instruction: &Instruction,
+) -> Result<bool, AllocError>
+    ensures { IfOk result (λ is. is ≡ true → IsLineOf wide text.now (instruction_of instruction.now)) }
 {
-    let seen = look(alloc, 1, text)?;
+    let seen = look(alloc, wide, 1, text)?;
     if seen.wrong.is_some() || seen.line.label.is_some() {
         return Ok(false);
     }

@@ -1,11 +1,11 @@
 //! Lists of words: rights, fcntl commands and flags.
 
 ghost use Rattle.std.specs.Prelude.{⊤, ◌≡◌, map, option_map};
-ghost use Rattle.instruction_set.specs.Fields.{read_commands, flag_names, read_flags, is_word_among, set_of_word, read_rights, set_of as set_in};
+ghost use Rattle.instruction_set.specs.Fields.{read_commands, flag_names, read_flags, read_further, is_word_among, set_of_word, read_rights, set_of as set_in};
 ghost use Rattle.texts.specs.Parts.{parts};
 
 use bitflags::{Flag, Flags};
-use rights::{Fcntls, OpenFlags, Rights};
+use rights::{Fcntls, OpenFlags, Rights, is_further_right};
 use texts::first_part;
 
 /// Whether the word is one of a list's.
@@ -66,11 +66,29 @@ fn set<F: Flags + Copy>(word: &[u8]) -> Option<F>
     }
 }
 
-/// The rights that a list names. `RECV` is another name of `READ`, and `SEND` of `WRITE`.
-pub(crate) fn rights(word: &[u8]) -> Option<Rights>
-    ensures { option_map (λ rights. rights.0) result ≡ read_rights word.now }
+/// The rights that a list names, further ones among them in the wide language alone. `RECV` is another
+/// name of `READ`, and `SEND` of `WRITE`.
+pub(crate) fn rights(word: &[u8], wide: bool) -> Option<Rights>
+    ensures { option_map (λ rights. rights.0) result ≡ read_rights wide word.now }
 {
-    set(word)
+    let rights = set::<Rights>(word)?;
+    if wide || Rights::plain().contains(rights) {
+        Some(rights)
+    } else {
+        None
+    }
+}
+
+/// The further right of this name.
+pub(crate) fn further_right(word: &[u8]) -> Option<Rights>
+    ensures { option_map (λ right. right.0) result ≡ read_further word.now }
+{
+    let right = named(Rights::flags(), word)?;
+    if is_further_right(right) {
+        Some(right)
+    } else {
+        None
+    }
 }
 
 /// The fcntl commands that a list names.

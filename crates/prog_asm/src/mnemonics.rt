@@ -21,8 +21,8 @@ pub enum Mnemonic {
     Make(Call),
 }
 
-/// The instructions that are read. (own)
-pub const MNEMONICS: [Mnemonic; 35] = [
+/// The instructions that are read, `use` in the wide language alone. (own)
+pub const MNEMONICS: [Mnemonic; 36] = [
     Mnemonic::Set,
     Mnemonic::Mov,
     Mnemonic::Add,
@@ -58,6 +58,7 @@ pub const MNEMONICS: [Mnemonic; 35] = [
     Mnemonic::Make(Call::CapGetmode),
     Mnemonic::Make(Call::Socketpair),
     Mnemonic::Make(Call::Fork),
+    Mnemonic::Make(Call::Use),
 ];
 
 impl Mnemonic {
@@ -92,9 +93,12 @@ fn mnemonic_among(mnemonics: &[Mnemonic], word: &[u8]) -> Option<Mnemonic>
     None
 }
 
-/// The instruction that is read at this word.
-pub(crate) fn mnemonic_of(word: &[u8]) -> Option<Mnemonic>
-    ensures { option_map mnemonic_from result ≡ mnemonic_of word.now }
+/// The instruction that is read at this word, in the wide language or the other.
+pub(crate) fn mnemonic_of(wide: bool, word: &[u8]) -> Option<Mnemonic>
+    ensures { option_map mnemonic_from result ≡ mnemonic_of wide word.now }
 {
-    mnemonic_among(&MNEMONICS, word)
+    match mnemonic_among(&MNEMONICS, word) {
+        Some(Mnemonic::Make(Call::Use)) if !wide => None,
+        mnemonic => mnemonic,
+    }
 }

@@ -25,8 +25,12 @@ pub enum Form {
     Path,
     /// How a file is opened: a list of words.
     Flags,
-    /// A list of rights.
+    /// A list of rights: of the fourteen that every task may name.
     Rights,
+    /// A list of rights, further ones among them.
+    AllRights,
+    /// One further right.
+    FurtherRight,
     /// A list of fcntl commands.
     Commands,
     Label,
@@ -47,7 +51,9 @@ impl Form {
             Form::Operand => fields::operand(word).is_some(),
             Form::Path => fields::quoted_path(word).is_some(),
             Form::Flags => lists::flags(word).is_some(),
-            Form::Rights => lists::rights(word).is_some(),
+            Form::Rights => lists::rights(word, false).is_some(),
+            Form::AllRights => lists::rights(word, true).is_some(),
+            Form::FurtherRight => lists::further_right(word).is_some(),
             Form::Commands => lists::commands(word).is_some(),
             Form::Label => is_name(word),
             Form::Directory => word == b"dir".as_slice(),
@@ -56,9 +62,9 @@ impl Form {
     }
 }
 
-/// The operands of a call, and where it leads after an error.
-fn call_forms(call: Call) -> &'static [Form]
-    ensures { map form_of result.now ≡ call_forms (call_of call) }
+/// The operands of a call in the wide language or the other, and where it leads after an error.
+fn call_forms(wide: bool, call: Call) -> &'static [Form]
+    ensures { map form_of result.now ≡ call_forms wide (call_of call) }
 {
     match call {
         Call::CapEnter | Call::CapGetmode | Call::Socketpair | Call::Fork => {
@@ -84,7 +90,11 @@ fn call_forms(call: Call) -> &'static [Form]
             Form::Else,
             Form::Label,
         ],
+        Call::CapRightsLimit if wide => {
+            &[Form::Operand, Form::AllRights, Form::Else, Form::Label]
+        }
         Call::CapRightsLimit => &[Form::Operand, Form::Rights, Form::Else, Form::Label],
+        Call::Use => &[Form::Operand, Form::FurtherRight, Form::Else, Form::Label],
         Call::CapFcntlsLimit => &[Form::Operand, Form::Commands, Form::Else, Form::Label],
         Call::Fstatat | Call::Mkdirat => &[Form::Operand, Form::Path, Form::Else, Form::Label],
         Call::Openat => &[
@@ -113,9 +123,9 @@ fn call_forms(call: Call) -> &'static [Form]
 }
 
 impl Mnemonic {
-    /// What the instruction wants behind its word, in this order. (own)
-    pub fn forms(self) -> &'static [Form]
-        ensures { map form_of result.now ≡ forms_of (mnemonic_from self) }
+    /// What the instruction wants behind its word in the wide language or the other, in this order. (own)
+    pub fn forms(self, wide: bool) -> &'static [Form]
+        ensures { map form_of result.now ≡ forms_of wide (mnemonic_from self) }
     {
         match self {
             Mnemonic::Set => &[Form::Register, Form::Number],
@@ -124,7 +134,7 @@ impl Mnemonic {
             Mnemonic::Jmp => &[Form::Label],
             Mnemonic::Jeq | Mnemonic::Jlt => &[Form::Register, Form::Number, Form::Label],
             Mnemonic::Halt => &[],
-            Mnemonic::Make(call) => call_forms(call),
+            Mnemonic::Make(call) => call_forms(wide, call),
         }
     }
 }

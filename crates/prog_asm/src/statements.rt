@@ -45,18 +45,22 @@ pub(crate) fn behind_label<'w, 't>(words: &'w [Word<'t>]) -> &'w [Word<'t>]
     }
 }
 
-/// The instruction that words stand for, if there are any.
-fn instruction_in<'t>(alloc: Global, words: &[Word<'t>]) -> Result<Option<Written<'t>>, Mistake>
+/// The instruction that words stand for in the wide language or the other, if there are any.
+fn instruction_in<'t>(
+    alloc: Global,
+    wide: bool,
+    words: &[Word<'t>],
+) -> Result<Option<Written<'t>>, Mistake>
     ensures { ReadsAssembly (λ instruction. option_map written_from instruction) result
-        (instruction_in (texts_of words.now)) }
+        (instruction_in wide (texts_of words.now)) }
 {
     match words {
         [] => Ok(None),
         [word, operands @ ..] => {
-            let Some(mnemonic) = mnemonic_of(word.text) else {
+            let Some(mnemonic) = mnemonic_of(wide, word.text) else {
                 return Err(Mistake::Wrong);
             };
-            Ok(Some(read_written(alloc, mnemonic, operands)?))
+            Ok(Some(read_written(alloc, wide, mnemonic, operands)?))
         }
     }
 }
@@ -65,32 +69,35 @@ fn instruction_in<'t>(alloc: Global, words: &[Word<'t>]) -> Result<Option<Writte
 #[tactic(auto, using(crate::proofs::LinesRead::labels_keep))]
 fn with_label<'t>(
     alloc: Global,
+    wide: bool,
     label: Option<&'t [u8]>,
     words: &[Word<'t>],
 ) -> Result<Line<'t>, Mistake>
     ensures { ReadsAssembly line_from result (with_label (option_map (λ name. name.now) label.entry)
-        (instruction_in (texts_of words.now))) }
+        (instruction_in wide (texts_of words.now))) }
 {
-    let instruction = instruction_in(alloc, words)?;
+    let instruction = instruction_in(alloc, wide, words)?;
     Ok(Line { label, instruction })
 }
 
-/// The line with this label and these words behind it, in which a byte stands that no word has, or none.
+/// The line with this label and these words behind it, in which a byte stands that no word has, or none, in the wide
+/// language or the other.
 pub(crate) fn read_line<'t>(
     alloc: Global,
+    wide: bool,
     stray: Option<Span>,
     label: Option<Word<'t>>,
     words: &[Word<'t>],
 ) -> Result<Line<'t>, Mistake>
     ensures { ReadsAssembly line_from result
-        (line_of_parts (option_map span_seen stray) (option_map word_of label.entry) (texts_of words.now)) }
+        (line_of_parts wide (option_map span_seen stray) (option_map word_of label.entry) (texts_of words.now)) }
 {
     if stray.is_some() {
         return Err(Mistake::Wrong);
     }
     match label {
-        None => with_label(alloc, None, words),
-        Some(label) if is_name(label.text) => with_label(alloc, Some(label.text), words),
+        None => with_label(alloc, wide, None, words),
+        Some(label) if is_name(label.text) => with_label(alloc, wide, Some(label.text), words),
         Some(_) => Err(Mistake::Wrong),
     }
 }

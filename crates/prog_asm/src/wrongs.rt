@@ -42,16 +42,16 @@ fn operand_place(word: &Word<'_>, operands: &[Word<'_>], number: usize) -> Span
 }
 
 /// What is wrong with the instruction that words of this line are.
-fn wrong_instruction(line: usize, words: &[Word<'_>]) -> Option<LineFault>
-    ensures { list_of (option_map fault_seen result) ≡ own_fault line (wrong_instruction (map word_of words.now)) }
+fn wrong_instruction(line: usize, wide: bool, words: &[Word<'_>]) -> Option<LineFault>
+    ensures { list_of (option_map fault_seen result) ≡ own_fault line (wrong_instruction wide (map word_of words.now)) }
 {
     let [word, operands @ ..] = words else {
         return None;
     };
-    let Some(mnemonic) = mnemonic_of(word.text) else {
+    let Some(mnemonic) = mnemonic_of(wide, word.text) else {
         return Some(LineFault::at(LineMistake::Word, line, word.span));
     };
-    let found = first_unfit(mnemonic.forms(), operands)?;
+    let found = first_unfit(mnemonic.forms(wide), operands)?;
     Some(LineFault {
         mistake: LineMistake::Operand,
         line,
@@ -63,11 +63,12 @@ fn wrong_instruction(line: usize, words: &[Word<'_>]) -> Option<LineFault>
 /// What is wrong with a line by itself, with a byte that no word has, if there is one, a label and the words behind it.
 fn wrong_in(
     line: usize,
+    wide: bool,
     stray: Option<Span>,
     label: Option<Word<'_>>,
     words: &[Word<'_>],
 ) -> Option<LineFault>
-    ensures { list_of (option_map fault_seen result) ≡ own_fault line (model.wrong_in (model.bad_label (option_map word_of label.entry))
+    ensures { list_of (option_map fault_seen result) ≡ own_fault line (model.wrong_in wide (model.bad_label (option_map word_of label.entry))
         (option_map span_seen stray) (map word_of words.now)) }
 {
     let bad_label = match label {
@@ -76,7 +77,7 @@ fn wrong_in(
     };
     match bad_label.or(stray) {
         Some(span) => Some(LineFault::at(LineMistake::Word, line, span)),
-        None => wrong_instruction(line, words),
+        None => wrong_instruction(line, wide, words),
     }
 }
 
@@ -137,10 +138,15 @@ pub(crate) struct Seen<'t> {
     pub instruction: Span,
 }
 
-/// Looks at the line of this number by itself. What is wrong is sought where the line isn't read.
-pub(crate) fn look<'t>(alloc: Global, number: usize, text: &'t [u8]) -> Result<Seen<'t>, AllocError>
-    ensures line { IfOk result (λ seen. line_from seen.line ≡ counted text.entry.now) }
-    ensures wrong { IfOk result (λ seen. list_of (option_map fault_seen seen.wrong) ≡ own_fault number (model.wrong_on text.entry.now)) }
+/// Looks at the line of this number by itself, in the wide language or the other. What is wrong is sought where the line isn't read.
+pub(crate) fn look<'t>(
+    alloc: Global,
+    wide: bool,
+    number: usize,
+    text: &'t [u8],
+) -> Result<Seen<'t>, AllocError>
+    ensures line { IfOk result (λ seen. line_from seen.line ≡ counted wide text.entry.now) }
+    ensures wrong { IfOk result (λ seen. list_of (option_map fault_seen seen.wrong) ≡ own_fault number (model.wrong_on wide text.entry.now)) }
     ensures label { IfOk result (λ seen. span_seen seen.label ≡ model.label_place (model.label_in (words_on text.entry.now))) }
     ensures instruction { IfOk result (λ seen. span_seen seen.instruction ≡ model.instruction_place text.entry.now) }
 {
@@ -149,9 +155,12 @@ pub(crate) fn look<'t>(alloc: Global, number: usize, text: &'t [u8]) -> Result<S
     let stray = stray_in(code);
     let label = label_in(&words);
     let behind = behind_label(&words);
-    let (line, wrong) = match read_line(alloc, stray, label, behind) {
+    let (line, wrong) = match read_line(alloc, wide, stray, label, behind) {
         Ok(line) => (line, None),
-        Err(Mistake::Wrong) => (halt_behind(label), wrong_in(number, stray, label, behind)),
+        Err(Mistake::Wrong) => (
+            halt_behind(label),
+            wrong_in(number, wide, stray, label, behind),
+        ),
         Err(Mistake::Memory) => return Err(AllocError),
     };
     Ok(Seen {

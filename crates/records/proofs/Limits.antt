@@ -20,10 +20,10 @@ use Rattle.records.specs.Calls.{is_made, is_of_kind, is_outcome, is_real_number,
 use Rattle.records.specs.Named.{call_of_word, error_of_word, reason_of_word}
 use Rattle.records.specs.Quoted.{QuoteProgress, Before, Within, Escaped, Lettered, Halfway, Behind, QuoteEffect, Leads}
 use Rattle.records.specs.Quoted.{Gives, Stops, effect, given_byte, going, is_plain, unquoted, unquoted_from}
-use Rattle.call_facts.specs.Sets.{Row, bits_named, command_rows, flag_rows, has_word, request_of_set, request_of_word, right_rows, set_of_list}
-use Rattle.records.specs.Readings.{◌>>=◌, Words, WordField, Awaited, Next, What, Pair, Side, Amount, Nothing}
-use Rattle.records.specs.Readings.{BindingStep, Awaits, Binds, Refuses, Bindings, after_step, and_entry, binding_step, bindings_from, bindings_of, bound}
-use Rattle.records.specs.Readings.{Counts, Form, NoEnd, calls_after, calls_of_lines, calls_of_text, choice_at, descriptor_of_word, end_side_of_word}
+use Rattle.call_facts.specs.Sets.{Row, bits_named, command_rows, flag_rows, has_word, plain_rows, request_of_set, request_of_word, right_rows, set_of_list}
+use Rattle.records.specs.Readings.{◌>>=◌, Words, Awaited, Next, What, Pair, Side, Amount, Nothing}
+use Rattle.records.specs.Readings.{BindingStep, Awaits, Binds, Refuses, Bindings, after_step, and_entry, binding_step, bindings_from, bindings_of}
+use Rattle.records.specs.Readings.{Counts, Form, NoEnd, calls_after, calls_of_lines, calls_of_text, descriptor_of_word, end_side_of_word}
 use Rattle.records.specs.Readings.{ends_after, entry_of_text, entry_of_words, faulty, if_text, is_counts_line, left_out_of, made_of, one_word_at}
 use Rattle.records.specs.Readings.{operands_at, operands_from, outcome_at, read_last, read_number, read_word}
 use Rattle.records.specs.Readings.{real_number_at, real_operand_at, record_span_at, recorded_event_of, step_with, wanted_of, with_no_more}
@@ -99,9 +99,13 @@ few-bits (r ∷ rows) words = go (has_word r.name words) (few-bits rows words)
     go true rest = omega (arith, rest)
     go false rest = omega (arith, rest)
 
-pub rights_fit : (word : List ℕ) → nat_lt (set_of_list right_rows word) (2 ^ 14) ≡ true
+pub rights_fit : (word : List ℕ) → nat_lt (set_of_list right_rows word) (2 ^ 46) ≡ true
 unfolding set_of_list
-rights_fit word = let few = few-bits right_rows (parts 44 word) in lt-ltb (bits_named right_rows (parts 44 word)) (2 ^ 14) (omega (arith, few))
+rights_fit word = let few = few-bits right_rows (parts 44 word) in lt-ltb (bits_named right_rows (parts 44 word)) (2 ^ 46) (omega (arith, few))
+
+pub plain_fit : (word : List ℕ) → nat_lt (set_of_list plain_rows word) (2 ^ 46) ≡ true
+unfolding set_of_list
+plain_fit word = let few = few-bits plain_rows (parts 44 word) in lt-ltb (bits_named plain_rows (parts 44 word)) (2 ^ 46) (omega (arith, few))
 
 pub commands_fit : (word : List ℕ) → nat_lt (set_of_list command_rows word) (2 ^ 2) ≡ true
 unfolding set_of_list

@@ -58,6 +58,7 @@ call-back calls.Cap_enter = refl
 call-back calls.Cap_getmode = refl
 call-back calls.Socketpair = refl
 call-back calls.Fork = refl
+call-back calls.Use = refl
 
 pub call-dark : (c : Call) → list_all is_dark (call_name c) ≡ true
 call-dark calls.Open = refl
@@ -87,6 +88,7 @@ call-dark calls.Cap_enter = refl
 call-dark calls.Cap_getmode = refl
 call-dark calls.Socketpair = refl
 call-dark calls.Fork = refl
+call-dark calls.Use = refl
 
 -- no call is one of the other words that stand in its place
 pub call-other : (c : Call) → (bytes_eq (call_name c) (codes "-") ≡ false) × (bytes_eq (call_name c) (codes "exit") ≡ false)
@@ -117,6 +119,7 @@ call-other calls.Cap_enter = (refl, refl)
 call-other calls.Cap_getmode = (refl, refl)
 call-other calls.Socketpair = (refl, refl)
 call-other calls.Fork = (refl, refl)
+call-other calls.Use = (refl, refl)
 
 pub call-choice : (c : Call) → has_last_choice (operand_kinds c) ≡ true
 call-choice calls.Open = refl
@@ -146,6 +149,7 @@ call-choice calls.Cap_enter = refl
 call-choice calls.Cap_getmode = refl
 call-choice calls.Socketpair = refl
 call-choice calls.Fork = refl
+call-choice calls.Use = refl
 
 pub error-back : (e : Errno) → error_of_word (errno_name e) ≡ Some e
 unfolding error_of_word

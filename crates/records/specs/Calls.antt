@@ -142,7 +142,7 @@ abbrev pub is_real_operand : RealOperand → Bool
 is_real_operand (Number number) = is_real_number number
 is_real_operand (Path path) = is_text path
 is_real_operand (Flags flags) = is_valid flags
-is_real_operand (Rights rights) = nat_lt rights (2 ^ 14)
+is_real_operand (Rights rights) = nat_lt rights (2 ^ 46)
 is_real_operand (Commands commands) = nat_lt commands (2 ^ 2)
 is_real_operand (Directory asked) = true
 

@@ -2,7 +2,7 @@
 use Rattle.std.specs.Prelude.{ℕ, List, [], ◌∷◌, codes, Option, Some, None, if◌then◌else◌}
 use Rattle.std.specs.Str.{bytes_eq}
 use Rattle.rights.specs.Calls.{Call, Open, Openat, Read, Write, Sendfd, Recvfd, Lseek, Ftruncate, Fsync, Fstat, Fcntl_getfl, Fcntl_setfl, Fstatat, Stat, Mkdirat, Mkdir}
-use Rattle.rights.specs.Calls.{Unlinkat, Unlink, Renameat, Dup, Close, Cap_rights_limit, Cap_fcntls_limit, Cap_enter, Cap_getmode, Socketpair, Fork, call_name}
+use Rattle.rights.specs.Calls.{Unlinkat, Unlink, Renameat, Dup, Close, Cap_rights_limit, Cap_fcntls_limit, Cap_enter, Cap_getmode, Socketpair, Fork, Use, call_name}
 use Rattle.rights.specs.Errors.{Errno, EPERM, ENOENT, EBADF, EEXIST, ENOTDIR, EISDIR, EINVAL, ENFILE, EMFILE}
 use Rattle.rights.specs.Errors.{EFBIG, ENOSPC, EPIPE, EAGAIN, ENOTSOCK, ELOOP, ENAMETOOLONG, ENOTEMPTY, ENOTCAPABLE, ECAPMODE}
 use Rattle.rights.specs.Errors.{errno_name}
@@ -16,7 +16,7 @@ abbrev pub all_calls : List Call
 all_calls =
     Open ∷ Openat ∷ Read ∷ Write ∷ Sendfd ∷ Recvfd ∷ Lseek ∷ Ftruncate ∷ Fsync ∷ Fstat ∷ Fcntl_getfl ∷ Fcntl_setfl ∷ Fstatat ∷ Stat
     ∷ Mkdirat ∷ Mkdir ∷ Unlinkat ∷ Unlink ∷ Renameat ∷ Dup ∷ Close ∷ Cap_rights_limit ∷ Cap_fcntls_limit ∷ Cap_enter ∷ Cap_getmode
-    ∷ Socketpair ∷ Fork ∷ []
+    ∷ Socketpair ∷ Fork ∷ Use ∷ []
 
 abbrev pub all_errors : List Errno
 all_errors =

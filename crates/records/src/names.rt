@@ -14,7 +14,7 @@ use crate::strace_texts::same_bytes;
 use rights::{Call, Errno};
 
 /// All calls.
-const CALLS: [Call; 27] = [
+const CALLS: [Call; 28] = [
     Call::Open,
     Call::Openat,
     Call::Read,
@@ -42,6 +42,7 @@ const CALLS: [Call; 27] = [
     Call::CapGetmode,
     Call::Socketpair,
     Call::Fork,
+    Call::Use,
 ];
 
 /// All errors.

@@ -6,7 +6,7 @@ ghost use Rattle.records.specs.OperandViews.{operand_seen};
 ghost use Rattle.records.specs.Calls.{A_command_set, A_path, A_right_set, Open_flags, are_of_kinds, is_of_kind, is_real_operand};
 
 use crate::operands::Operand;
-use call_facts::sets::{read_commands, read_rights};
+use call_facts::sets::{read_commands, read_plain_rights};
 use rights::OpenFlags;
 use std::alloc::{AllocError, Global};
 
@@ -40,13 +40,13 @@ fn flags_operand(flags: OpenFlags) -> Operand
     Operand::Flags(flags)
 }
 
-/// The operand that is the rights of these names.
-#[tactic(auto, using(crate::proofs::Limits::rights_fit))]
+/// The operand that is those of the fourteen rights that have these names.
+#[tactic(auto, using(crate::proofs::Limits::plain_fit))]
 fn rights_operand(names: &[u8]) -> Operand
     ensures kind { is_of_kind A_right_set (operand_seen result) ≡ true }
     ensures within { is_real_operand (operand_seen result) ≡ true }
 {
-    Operand::Rights(read_rights(names))
+    Operand::Rights(read_plain_rights(names))
 }
 
 /// The operand that is the fcntl commands of these names.

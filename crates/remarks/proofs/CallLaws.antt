@@ -1,16 +1,17 @@
 -- What is known of calls agrees with what the rules ask of them.
 use Rattle.std.proofs.Common.{◌≡◌, ◌∙◌, refl, ap, ◌++◌, Bool, true, false}
-use Rattle.std.specs.Prelude.{List, [], ◌∷◌, Option, Some, None, option_map}
+use Rattle.std.specs.Prelude.{List, Option, Some, None, option_map}
 use Rattle.rights.specs.Opens.{OpenRequest}
 use Rattle.rights.specs.Operations.{Operation, Create, Write}
-use Rattle.instruction_set.specs.CallNeeds.{flags_in}
+use Rattle.rights.specs.Uses.{operation_of_use}
+use Rattle.instruction_set.specs.CallNeeds.{flags_in, further_of}
 use Rattle.instruction_set.specs.Programs.{Operand, Syscall, called}
 use Rattle.instruction_set.specs.Programs as programs
 use Rattle.call_facts.specs.Arguments.{first_operand, second_operand}
 use Rattle.call_facts.specs.Facts.{facts_of}
 use Rattle.call_facts.specs.Facts as facts
-use Rattle.call_facts.specs.Operations.{first_operations, only_if, opening}
-use Rattle.rules.specs.Needs.{Passed, Through, needs, open_operations, operation_if}
+use Rattle.call_facts.specs.Operations.{first_operations, only_if, opening, operation_alone}
+use Rattle.rules.specs.Needs.{Passed, Through, listed_operation, needs, open_operations, operation_if}
 use Rattle.rules.specs.Needs as rules
 
 -- the operand through which a call goes first
@@ -42,6 +43,7 @@ first_agrees programs.Cap_enter = refl
 first_agrees programs.Cap_getmode = refl
 first_agrees programs.Socketpair = refl
 first_agrees programs.Fork = refl
+first_agrees (programs.Use x right) = refl
 
 -- the operations that it may do there; of a call that goes through none those of the facts
 abbrev operations_through : Option Through → List Operation → List Operation
@@ -55,7 +57,13 @@ same_if false operation = refl
 same_opening : (f : OpenRequest) → open_operations f ≡ opening f
 same_opening f = ap (λ (os : List Operation). os ++ operation_if f.trunc Write) (same_if f.create Create) ∙ ap (λ (os : List Operation). only_if f.create Create ++ os) (same_if f.trunc Write)
 
-pub operations_agree : (call : Syscall) → operations_through (needs call).first (first_operations (called call) (flags_in call)) ≡ first_operations (called call) (flags_in call)
+same_alone : (operation : Option Operation) → listed_operation operation ≡ operation_alone operation
+same_alone None = refl
+same_alone (Some operation) = refl
+
+pub operations_agree : (call : Syscall) →
+    operations_through (needs call).first (first_operations (called call) (flags_in call) (further_of call))
+    ≡ first_operations (called call) (flags_in call) (further_of call)
 operations_agree (programs.Open path flags) = refl
 operations_agree (programs.Openat x path flags) = same_opening flags
 operations_agree (programs.Read x) = refl
@@ -83,6 +91,7 @@ operations_agree programs.Cap_enter = refl
 operations_agree programs.Cap_getmode = refl
 operations_agree programs.Socketpair = refl
 operations_agree programs.Fork = refl
+operations_agree (programs.Use x right) = same_alone (operation_of_use right)
 
 -- the operand of the descriptor that it sends
 abbrev sent_of : Passed → Option Operand
@@ -129,3 +138,4 @@ sent_agrees programs.Cap_enter = refl
 sent_agrees programs.Cap_getmode = refl
 sent_agrees programs.Socketpair = refl
 sent_agrees programs.Fork = refl
+sent_agrees (programs.Use x right) = refl

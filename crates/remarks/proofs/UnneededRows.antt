@@ -13,20 +13,20 @@ abbrev authority : RightSet → Authority
 authority rights = record { program = codes "main"; ceilings = record { grant = codes "work"; rights = rights } ∷ []; holds = [] }
 
 -- A right to read needs reading, and neither looking nor writing; to look names up is to look.
-reading : authority_needs (codes "work") Read (without (codes "work") Read ∷ []) (authority read_right) ≡ true
+reading : authority_needs false (codes "work") Read (without (codes "work") Read ∷ []) (authority read_right) ≡ true
 unfolding grant_named
 reading = refl
 
-looking : authority_needs (codes "work") Look (without (codes "work") Look ∷ []) (authority read_right) ≡ false
+looking : authority_needs false (codes "work") Look (without (codes "work") Look ∷ []) (authority read_right) ≡ false
 unfolding grant_named
 looking = refl
 
-looking_up : authority_needs (codes "work") Look (without (codes "work") Look ∷ []) (authority lookup_right) ≡ true
+looking_up : authority_needs false (codes "work") Look (without (codes "work") Look ∷ []) (authority lookup_right) ≡ true
 unfolding grant_named
 looking_up = refl
 
 -- a ceiling on another grant needs nothing of this one
-elsewhere : authority_needs (codes "home") Read (without (codes "home") Read ∷ []) (authority read_right) ≡ false
+elsewhere : authority_needs false (codes "home") Read (without (codes "home") Read ∷ []) (authority read_right) ≡ false
 unfolding grant_named
 elsewhere = refl
 

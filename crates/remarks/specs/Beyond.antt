@@ -17,26 +17,26 @@ union [] = 0
 union (set ∷ sets) = bit_or set (union sets)
 
 -- the right alone is for what the grant doesn't list
-abbrev pub is_unlisted : List Grant → Name → RightSet → Bool
-is_unlisted grants grant right = not (keeps_ceiling grants (record { grant = grant; rights = right }))
+abbrev pub is_unlisted : Bool → List Grant → Name → RightSet → Bool
+is_unlisted wide grants grant right = not (keeps_ceiling wide grants (record { grant = grant; rights = right }))
 
 -- of some rights those that are held and for what the grant doesn't list
-abbrev pub unlisted_among : List Grant → Name → RightSet → List RightSet → RightSet
-unlisted_among grants grant held rights = union (filter (λ right. is_within right held && is_unlisted grants grant right) rights)
+abbrev pub unlisted_among : Bool → List Grant → Name → RightSet → List RightSet → RightSet
+unlisted_among wide grants grant held rights = union (filter (λ right. is_within right held && is_unlisted wide grants grant right) rights)
 
 -- the rights that are for an operation of the policy
 abbrev pub rights_of_operations : List RightSet
 rights_of_operations = map (λ (o : RightSet × Operation). o.0) operations_of_rights
 
-abbrev pub beyond_of_target : List Grant → RightSet → Target → RightSet
-beyond_of_target grants held (In_grant grant) = unlisted_among grants grant held rights_of_operations
-beyond_of_target grants held Any_node = 0
-beyond_of_target grants held (Socket class side) = 0
-beyond_of_target grants held Unknown = 0
+abbrev pub beyond_of_target : Bool → List Grant → RightSet → Target → RightSet
+beyond_of_target wide grants held (In_grant grant) = unlisted_among wide grants grant held rights_of_operations
+beyond_of_target wide grants held Any_node = 0
+beyond_of_target wide grants held (Socket class side) = 0
+beyond_of_target wide grants held Unknown = 0
 
 -- what it may have beyond its grant; of what lies in no grant, or is an end of a pair, nothing is
-abbrev pub rights_beyond : List Grant → Held → RightSet
-rights_beyond grants h = beyond_of_target grants h.greatest h.target
+abbrev pub rights_beyond : Bool → List Grant → Held → RightSet
+rights_beyond wide grants h = beyond_of_target wide grants h.greatest h.target
 
 -- what a number may hold at a point in the mode; a point that only ends doesn't count
 abbrev pub held_if : Bool → Option Held → Option Held
@@ -51,16 +51,16 @@ abbrev pub held_in_mode : List Instruction → List (Option Bound) → Descripto
 held_in_mode code bounds n point = held_where_on (bound_here bounds point) (slice_get code point) n
 
 -- what a number may have beyond its grant there
-abbrev pub beyond_of : List Grant → Option Held → RightSet
-beyond_of grants None = 0
-beyond_of grants (Some h) = rights_beyond grants h
+abbrev pub beyond_of : Bool → List Grant → Option Held → RightSet
+beyond_of wide grants None = 0
+beyond_of wide grants (Some h) = rights_beyond wide grants h
 
-abbrev pub beyond_at : List Grant → List Instruction → List (Option Bound) → DescriptorNumber → ℕ → RightSet
-beyond_at grants code bounds n point = beyond_of grants (held_in_mode code bounds n point)
+abbrev pub beyond_at : Bool → List Grant → List Instruction → List (Option Bound) → DescriptorNumber → ℕ → RightSet
+beyond_at wide grants code bounds n point = beyond_of wide grants (held_in_mode code bounds n point)
 
 -- the points at which it has such rights, and all that it has at some points
-abbrev pub points_beyond : List Grant → List Instruction → List (Option Bound) → DescriptorNumber → List ℕ
-points_beyond grants code bounds n = filter (λ point. not (beyond_at grants code bounds n point == 0)) (points code)
+abbrev pub points_beyond : Bool → List Grant → List Instruction → List (Option Bound) → DescriptorNumber → List ℕ
+points_beyond wide grants code bounds n = filter (λ point. not (beyond_at wide grants code bounds n point == 0)) (points code)
 
-abbrev pub beyond_at_all : List Grant → List Instruction → List (Option Bound) → DescriptorNumber → List ℕ → RightSet
-beyond_at_all grants code bounds n at = union (map (beyond_at grants code bounds n) at)
+abbrev pub beyond_at_all : Bool → List Grant → List Instruction → List (Option Bound) → DescriptorNumber → List ℕ → RightSet
+beyond_at_all wide grants code bounds n at = union (map (beyond_at wide grants code bounds n) at)

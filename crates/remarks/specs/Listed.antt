@@ -3,6 +3,7 @@ use Rattle.std.specs.Prelude.{◌&&◌, ◌||◌, ◌==◌, ◌++◌, ◌-◌, n
 use Rattle.std.specs.List.{flat_map, list_any, range_with_len, slice_get}
 use Rattle.rights.specs.Limits.{most_descriptors}
 use Rattle.rights.specs.Sets.{is_within}
+use Rattle.rights.specs.Uses.{noted_rights}
 use Rattle.rights.specs.Values.{CommandSet, DescriptorNumber, RightSet}
 use Rattle.certificate.specs.Bounds.{Bound, Certificate, Held, held_in, slot}
 use Rattle.certificate.specs.Order.{slot_within}
@@ -97,10 +98,10 @@ is_new_there bounds n point = (point == 0) || not (has_same n (bound_here bounds
 abbrev pub new_in_mode : List (Option Bound) → DescriptorNumber → ℕ → Option Held
 new_in_mode bounds n point = if is_on_at bounds point && is_new_there bounds n point then held_here bounds n point else None
 
--- Less than it has, and something: where no call needs anything of it any more, nothing is remarked.
+-- Less than it has, and something, where all further rights don't count: where no call needs anything of it any more, nothing is remarked.
 abbrev pub right_limit : DescriptorNumber → ℕ → RightSet → RightSet → List Remarked
 right_limit n point has used =
-    if not (used == 0) && not (is_within has used) then at_point (Rights_left n (bit_and used has)) point else []
+    if not (used == 0) && not (is_within (noted_rights has) used) then at_point (Rights_left n (bit_and used has)) point else []
 
 abbrev pub command_limit : DescriptorNumber → ℕ → CommandSet → CommandSet → List Remarked
 command_limit n point has used =

@@ -26,21 +26,21 @@ abbrev pub without : Name → Operation → Grant
 without name operation = record { name = name; path = []; operations = others operation }
 
 -- A ceiling on such a grant isn't kept just if it has a right for that operation.
-abbrev pub has_right_for : Operation → List Grant → Ceiling → Bool
-has_right_for operation grants c = not (keeps_ceiling grants c) || (same_operation operation Look && is_within lookup_right c.rights)
+abbrev pub has_right_for : Bool → Operation → List Grant → Ceiling → Bool
+has_right_for wide operation grants c = not (keeps_ceiling wide grants c) || (same_operation operation Look && is_within lookup_right c.rights)
 
 -- A ceiling on the grant needs the operation: it has a right for it, by the table of K19, or looks names up, where it is looking.
-abbrev pub ceiling_needs : Name → Operation → List Grant → Ceiling → Bool
-ceiling_needs grant operation grants c = bytes_eq c.grant grant && has_right_for operation grants c
+abbrev pub ceiling_needs : Bool → Name → Operation → List Grant → Ceiling → Bool
+ceiling_needs wide grant operation grants c = bytes_eq c.grant grant && has_right_for wide operation grants c
 
-abbrev pub authority_needs : Name → Operation → List Grant → Authority → Bool
-authority_needs grant operation grants a = list_any (ceiling_needs grant operation grants) a.ceilings
+abbrev pub authority_needs : Bool → Name → Operation → List Grant → Authority → Bool
+authority_needs wide grant operation grants a = list_any (ceiling_needs wide grant operation grants) a.ceilings
 
 -- no call does it there in the mode, and no authority needs it
 abbrev pub is_unneeded : Plan → Certificate → Name → Operation → Bool
 is_unneeded plan c grant operation =
     not (list_any (program_does c grant operation) plan.programs)
-    && not (list_any (authority_needs grant operation (without grant operation ∷ [])) c.authorities)
+    && not (list_any (authority_needs plan.wide grant operation (without grant operation ∷ [])) c.authorities)
 
 -- those of some operations that are so
 abbrev pub unneeded : Plan → Certificate → Name → List Operation → List Operation

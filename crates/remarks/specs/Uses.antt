@@ -39,7 +39,7 @@ sends_target b t (Sent x) = names_target b x t
 
 -- what it needs, or keeps by a limit
 abbrev pub uses_of_need : Need → Uses
-uses_of_need n = record { rights = bit_or n.rights n.kept_rights; commands = bit_or n.commands n.kept_commands }
+uses_of_need n = record { rights = bit_or (bit_or n.rights n.further) n.kept_rights; commands = bit_or n.commands n.kept_commands }
 
 -- by one of its operands; all where it sends such a descriptor away
 abbrev pub uses_by : Bound → Target → Through → Uses

@@ -7,7 +7,7 @@ use Rattle.std.specs.Str.{bytes_eq}
 use Rattle.rights.specs.Opens.{OpenRequest}
 use Rattle.rights.specs.OperationLists.{lists}
 use Rattle.rights.specs.Operations.{Look}
-use Rattle.rights.specs.Sets.{all_commands, all_rights, fcntl_right, is_within, lookup_right, read_right}
+use Rattle.rights.specs.Sets.{all_commands, fcntl_right, is_within, lookup_right, plain_rights, read_right}
 use Rattle.rights.specs.Values.{DescriptorNumber, Name, PathText, RightSet}
 use Rattle.file_tree.specs.Nodes.{Node, is_dir, node}
 use Rattle.file_tree.specs.Places.{begins, slash}
@@ -47,7 +47,7 @@ may_be_off Either = true
 
 -- it has all rights and all commands
 abbrev pub is_unlimited : Held → Bool
-is_unlimited h = (h.greatest == all_rights) && (h.greatest_fcntls == all_commands)
+is_unlimited h = is_within plain_rights h.greatest && (h.greatest_fcntls == all_commands)
 
 abbrev pub are_limited : Bound → Operand → Bool
 are_limited b x = list_all (λ (s : OpenSlot). not (is_unlimited s.held)) (slots_in b x)
@@ -164,7 +164,7 @@ calls_ahead code = from_which code (calling_points code)
 -- ## What an untrusted program has more of
 -- all rights, or FCNTL with both commands: FreeBSD has more of each
 abbrev pub has_more : Held → Bool
-has_more h = (h.greatest == all_rights) || is_within fcntl_right h.greatest && (h.greatest_fcntls == all_commands)
+has_more h = is_within plain_rights h.greatest || is_within fcntl_right h.greatest && (h.greatest_fcntls == all_commands)
 
 abbrev pub takes_more_at : List Instruction → List (Option Bound) → DescriptorNumber → ℕ → Bool
 takes_more_at code bounds n point = is_there code enters_mode point && holds_so has_more (held_here bounds n point)
@@ -235,7 +235,7 @@ warned_in plan c (Some p) = map (warned_at plan p.name p.code (bounds_in c p) p.
 
 -- the ceilings of a program that have all rights, of which FreeBSD has more
 abbrev pub widest : Certificate → Name → List Ceiling
-widest c program = filter (λ (ceiling : Ceiling). ceiling.rights == all_rights) (authority_at c program).ceilings
+widest c program = filter (λ (ceiling : Ceiling). is_within plain_rights ceiling.rights) (authority_at c program).ceilings
 
 -- those that let names be looked up in a grant that doesn't list looking
 abbrev pub looks_beyond : List Grant → Ceiling → Bool
@@ -246,7 +246,7 @@ prying grants c program = filter (looks_beyond grants) (authority_at c program).
 
 -- what a process that starts in the mode has more of, as at an entering
 abbrev pub starts_with_more : FirstDescriptor → Bool
-starts_with_more d = (d.rights == all_rights) || is_within fcntl_right d.rights && (d.fcntls == all_commands)
+starts_with_more d = is_within plain_rights d.rights || is_within fcntl_right d.rights && (d.fcntls == all_commands)
 
 -- a directory in a grant that doesn't list looking, with READ or LOOKUP
 abbrev pub is_unlooked : List Node → FirstObject → Grant → Bool

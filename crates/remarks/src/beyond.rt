@@ -20,23 +20,29 @@ use texts::Name;
 use transfer::may_be_on;
 
 /// Whether a right alone is for what a grant doesn't list.
-fn is_unlisted(grants: &[Grant], grant: &Name, right: Rights) -> bool
+fn is_unlisted(wide: bool, grants: &[Grant], grant: &Name, right: Rights) -> bool
     requires { is_ceiling right.0 ≡ true }
-    ensures { result ≡ is_unlisted (grants_of grants.now) (name_of grant.now) right.0 }
+    ensures { result ≡ is_unlisted wide (grants_of grants.now) (name_of grant.now) right.0 }
 {
-    !keeps_ceiling(grants, &Ceiling::new(*grant, right))
+    !keeps_ceiling(wide, grants, &Ceiling::new(*grant, right))
 }
 
 /// Of some rights those that are held and for what the grant doesn't list.
-fn unlisted_among(grants: &[Grant], grant: &Name, held: Rights, rows: &[RightOperation]) -> Rights
+fn unlisted_among(
+    wide: bool,
+    grants: &[Grant],
+    grant: &Name,
+    held: Rights,
+    rows: &[RightOperation],
+) -> Rights
     requires { All (λ o. is_ceiling o.right.0 ≡ true) rows.now }
-    ensures { result.0 ≡ unlisted_among (grants_of grants.now) (name_of grant.now) held.0 (map (λ o. o.right.0) rows.now) }
+    ensures { result.0 ≡ unlisted_among wide (grants_of grants.now) (name_of grant.now) held.0 (map (λ o. o.right.0) rows.now) }
 {
     match rows {
         [] => Rights::empty(),
         [first, rest @ ..] => {
-            let others = unlisted_among(grants, grant, held, rest);
-            if held.contains(first.right) && is_unlisted(grants, grant, first.right) {
+            let others = unlisted_among(wide, grants, grant, held, rest);
+            if held.contains(first.right) && is_unlisted(wide, grants, grant, first.right) {
                 first.right.union(others)
             } else {
                 others
@@ -46,18 +52,20 @@ fn unlisted_among(grants: &[Grant], grant: &Name, held: Rights, rows: &[RightOpe
 }
 
 /// Of some rights in a grant those that are for what it doesn't list. (rights(4); own)
-pub fn unlisted_rights(grants: &[Grant], grant: &Name, held: Rights) -> Rights
-    ensures { result.0 ≡ unlisted_among (grants_of grants.now) (name_of grant.now) held.0 rights_of_operations }
+pub fn unlisted_rights(wide: bool, grants: &[Grant], grant: &Name, held: Rights) -> Rights
+    ensures { result.0 ≡ unlisted_among wide (grants_of grants.now) (name_of grant.now) held.0 rights_of_operations }
 {
-    unlisted_among(grants, grant, held, operations_of_rights())
+    unlisted_among(wide, grants, grant, held, operations_of_rights())
 }
 
 /// The rights that a number may have beyond what its grant lists. Of what lies in no grant, or is an end of a pair, none are. (rights(4); own)
-pub fn rights_beyond(grants: &[Grant], held: &Held) -> Rights
-    ensures { result.0 ≡ rights_beyond (grants_of grants.now) (held_of held.now) }
+pub fn rights_beyond(wide: bool, grants: &[Grant], held: &Held) -> Rights
+    ensures { result.0 ≡ rights_beyond wide (grants_of grants.now) (held_of held.now) }
 {
     match held.target() {
-        Target::InGrant(grant) => { unlisted_rights(grants, &grant, held.rights().greatest()) }
+        Target::InGrant(grant) => {
+            unlisted_rights(wide, grants, &grant, held.rights().greatest())
+        }
         Target::AnyNode | Target::Socket(..) | Target::Unknown => Rights::empty(),
     }
 }
@@ -92,17 +100,18 @@ pub fn held_in_mode(
 
 /// The rights that a number may have beyond its grant at a point in the mode.
 fn beyond_at(
+    wide: bool,
     grants: &[Grant],
     code: &[Instruction],
     bounds: &[Option<Bound>],
     number: u32,
     point: usize,
 ) -> Rights
-    ensures { result.0 ≡ beyond_at (grants_of grants.now) (code_of code.now) (bounds_of bounds.now) number point }
+    ensures { result.0 ≡ beyond_at wide (grants_of grants.now) (code_of code.now) (bounds_of bounds.now) number point }
 {
     match held_in_mode(code, bounds, number, point) {
         None => Rights::empty(),
-        Some(held) => rights_beyond(grants, &held),
+        Some(held) => rights_beyond(wide, grants, &held),
     }
 }
 
@@ -116,33 +125,35 @@ fn count(code: &[Instruction]) -> usize
 /// The points in the mode at which a number may have rights beyond its grant.
 pub fn points_beyond(
     alloc: Global,
+    wide: bool,
     grants: &[Grant],
     code: &[Instruction],
     bounds: &[Option<Bound>],
     number: u32,
 ) -> Result<Vec<usize>, AllocError>
-    ensures { IfOk result (λ found. found.items ≡ points_beyond (grants_of grants.now) (code_of code.now) (bounds_of bounds.now) number) }
+    ensures { IfOk result (λ found. found.items ≡ points_beyond wide (grants_of grants.now) (code_of code.now) (bounds_of bounds.now) number) }
 {
     (0..count(code))
-        .filter(|point| beyond_at(grants, code, bounds, number, *point) != Rights::empty())
+        .filter(|point| beyond_at(wide, grants, code, bounds, number, *point) != Rights::empty())
         .collect(alloc)
 }
 
 /// The rights that a number may have beyond its grant at some points.
 pub fn beyond_at_all(
+    wide: bool,
     grants: &[Grant],
     code: &[Instruction],
     bounds: &[Option<Bound>],
     number: u32,
     points: &[usize],
 ) -> Rights
-    ensures { result.0 ≡ beyond_at_all (grants_of grants.now) (code_of code.now) (bounds_of bounds.now) number points.now }
+    ensures { result.0 ≡ beyond_at_all wide (grants_of grants.now) (code_of code.now) (bounds_of bounds.now) number points.now }
 {
     match points {
         [] => Rights::empty(),
         [first, rest @ ..] => {
-            let others = beyond_at_all(grants, code, bounds, number, rest);
-            beyond_at(grants, code, bounds, number, *first).union(others)
+            let others = beyond_at_all(wide, grants, code, bounds, number, rest);
+            beyond_at(wide, grants, code, bounds, number, *first).union(others)
         }
     }
 }

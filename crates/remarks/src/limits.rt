@@ -40,7 +40,7 @@ fn add_right_limit(
 ) -> Result<(), AllocError>
     ensures { OnOk result (AddsRemarks list.old.items list.new.items (right_limit number point has.0 used.0)) }
 {
-    if used != Rights::empty() && !used.contains(has) {
+    if used != Rights::empty() && !used.contains(has.noted()) {
         let most = used.intersection(has);
         add_at(alloc, list, Remark::Rights { number, most }, point)?;
     }

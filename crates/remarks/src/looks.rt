@@ -81,7 +81,8 @@ impl SlotTest for IsLimited {
     ghost passes = { λ t s. not (is_unlimited s.held) };
 
     fn asks(&self, _number: u8, held: &Held) -> bool {
-        !(held.rights().greatest() == Rights::all() && held.fcntls().greatest() == Fcntls::all())
+        !(held.rights().greatest().contains(Rights::plain())
+            && held.fcntls().greatest() == Fcntls::all())
     }
 }
 

@@ -102,7 +102,7 @@ fn uses_by(bound: &Bound, target: &Target, through: &Through) -> Uses
         Uses::all()
     } else if names_target(bound, through.operand, target) {
         Uses {
-            rights: need.rights.union(need.kept_rights),
+            rights: need.rights.union(need.further).union(need.kept_rights),
             commands: need.commands.union(need.kept_commands),
         }
     } else {

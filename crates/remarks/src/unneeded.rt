@@ -58,49 +58,73 @@ fn without(alloc: Global, name: &Name, operation: Op) -> Result<Grant, AllocErro
 }
 
 /// Whether a ceiling has a right for an operation: such a grant as has all but that doesn't list what the ceiling's rights are for.
-fn has_right_for(operation: Op, grants: &[Grant], ceiling: &Ceiling) -> bool
-    ensures { result ≡ has_right_for (operation_of operation) (grants_of grants.now) (ceiling_of ceiling.now) }
+fn has_right_for(wide: bool, operation: Op, grants: &[Grant], ceiling: &Ceiling) -> bool
+    ensures { result ≡ has_right_for wide (operation_of operation) (grants_of grants.now) (ceiling_of ceiling.now) }
 {
-    !keeps_ceiling(grants, ceiling)
+    !keeps_ceiling(wide, grants, ceiling)
         || matches!(operation, Op::Look) && ceiling.rights().contains(Rights::LOOKUP)
 }
 
 /// Whether a ceiling on a grant needs an operation.
-fn ceiling_needs(grant: &[u8], operation: Op, grants: &[Grant], ceiling: &Ceiling) -> bool
-    ensures { result ≡ ceiling_needs grant.now (operation_of operation) (grants_of grants.now) (ceiling_of ceiling.now) }
+fn ceiling_needs(
+    wide: bool,
+    grant: &[u8],
+    operation: Op,
+    grants: &[Grant],
+    ceiling: &Ceiling,
+) -> bool
+    ensures { result ≡ ceiling_needs wide grant.now (operation_of operation) (grants_of grants.now) (ceiling_of ceiling.now) }
 {
-    ceiling.grant().as_bytes() == grant && has_right_for(operation, grants, ceiling)
+    ceiling.grant().as_bytes() == grant && has_right_for(wide, operation, grants, ceiling)
 }
 
 /// Whether one of some ceilings does.
-fn any_ceiling_needs(grant: &[u8], operation: Op, grants: &[Grant], ceilings: &[Ceiling]) -> bool
-    ensures { result ≡ list_any (ceiling_needs grant.now (operation_of operation) (grants_of grants.now)) (map ceiling_of ceilings.now) }
+fn any_ceiling_needs(
+    wide: bool,
+    grant: &[u8],
+    operation: Op,
+    grants: &[Grant],
+    ceilings: &[Ceiling],
+) -> bool
+    ensures { result ≡ list_any (ceiling_needs wide grant.now (operation_of operation) (grants_of grants.now)) (map ceiling_of ceilings.now) }
 {
     match ceilings {
         [] => false,
         [first, rest @ ..] => {
-            ceiling_needs(grant, operation, grants, first)
-                || any_ceiling_needs(grant, operation, grants, rest)
+            ceiling_needs(wide, grant, operation, grants, first)
+                || any_ceiling_needs(wide, grant, operation, grants, rest)
         }
     }
 }
 
 /// Whether a ceiling of an authority does.
-fn authority_needs(grant: &[u8], operation: Op, grants: &[Grant], authority: &Authority) -> bool
-    ensures { result ≡ authority_needs grant.now (operation_of operation) (grants_of grants.now) (authority_of authority.now) }
+fn authority_needs(
+    wide: bool,
+    grant: &[u8],
+    operation: Op,
+    grants: &[Grant],
+    authority: &Authority,
+) -> bool
+    ensures { result ≡ authority_needs wide grant.now (operation_of operation) (grants_of grants.now) (authority_of authority.now) }
 {
-    any_ceiling_needs(grant, operation, grants, authority.ceilings())
+    any_ceiling_needs(wide, grant, operation, grants, authority.ceilings())
 }
 
 /// Whether a ceiling of some authority does.
-fn any_needs(grant: &[u8], operation: Op, grants: &[Grant], authorities: &[Authority]) -> bool
-    ensures { result ≡ list_any (authority_needs grant.now (operation_of operation) (grants_of grants.now)) (authorities_of authorities.now) }
+fn any_needs(
+    wide: bool,
+    grant: &[u8],
+    operation: Op,
+    grants: &[Grant],
+    authorities: &[Authority],
+) -> bool
+    ensures { result ≡ list_any (authority_needs wide grant.now (operation_of operation) (grants_of grants.now)) (authorities_of authorities.now) }
 {
     match authorities {
         [] => false,
         [first, rest @ ..] => {
-            authority_needs(grant, operation, grants, first)
-                || any_needs(grant, operation, grants, rest)
+            authority_needs(wide, grant, operation, grants, first)
+                || any_needs(wide, grant, operation, grants, rest)
         }
     }
 }
@@ -119,7 +143,13 @@ fn is_unneeded(
     let grants = [without(alloc, grant, operation)?];
     Ok(
         !any_program_does(cert, name, operation, task.programs())
-            && !any_needs(name, operation, &grants, cert.authorities()),
+            && !any_needs(
+                task.further_rights(),
+                name,
+                operation,
+                &grants,
+                cert.authorities(),
+            ),
     )
 }
 

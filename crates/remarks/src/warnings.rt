@@ -120,7 +120,7 @@ fn has_more(held: &Held) -> bool
     ensures { result ≡ has_more (held_of held.now) }
 {
     let (rights, commands) = (held.rights().greatest(), held.fcntls().greatest());
-    rights == Rights::all() || rights.contains(Rights::FCNTL) && commands == Fcntls::all()
+    rights.contains(Rights::plain()) || rights.contains(Rights::FCNTL) && commands == Fcntls::all()
 }
 
 impl<'a> Bounded<'a> {
@@ -313,7 +313,7 @@ pub fn widest_ceilings(
     ceilings_among(cert.authorities(), program.as_bytes())
         .iter()
         .copied()
-        .filter(|ceiling| ceiling.rights() == Rights::all())
+        .filter(|ceiling| ceiling.rights().contains(Rights::plain()))
         .collect(alloc)
 }
 
@@ -346,7 +346,7 @@ pub fn prying_ceilings(
 fn starts_with_more(first: FirstDescriptor) -> bool
     ensures { result ≡ starts_with_more (first_descriptor_of first) }
 {
-    first.rights == Rights::all()
+    first.rights.contains(Rights::plain())
         || first.rights.contains(Rights::FCNTL) && first.fcntls == Fcntls::all()
 }
 

@@ -7,7 +7,7 @@ use remarks::rights_beyond;
 use rights::Rights;
 use rights::limits::MAX_DESCRIPTORS;
 use task::Grant;
-use texts::parts_of;
+use texts::{ToldRights, parts_of};
 use transfer::may_be_on;
 
 /// Whether a number may be open at some point of a program.
@@ -42,12 +42,12 @@ fn bound_at(bounds: &[Option<Bound>], point: usize) -> Option<&Bound> {
 }
 
 /// What a number is open on.
-fn kind_of(grants: &[Grant], bound: &Bound, held: &Held) -> OpenKind {
+fn kind_of(wide: bool, grants: &[Grant], bound: &Bound, held: &Held) -> OpenKind {
     let is_on = may_be_on(bound.mode());
     match held.target() {
         Target::Socket(..) => OpenKind::End,
         Target::InGrant(_) => {
-            if is_on && rights_beyond(grants, held) != Rights::empty() {
+            if is_on && rights_beyond(wide, grants, held) != Rights::empty() {
                 OpenKind::Beyond
             } else {
                 OpenKind::Granted
@@ -64,11 +64,11 @@ fn kind_of(grants: &[Grant], bound: &Bound, held: &Held) -> OpenKind {
 }
 
 /// What a number is at a point.
-fn state_of(grants: &[Grant], bound: &Bound, number: u8) -> OpenState {
+fn state_of(wide: bool, grants: &[Grant], bound: &Bound, number: u8) -> OpenState {
     let (kind, maybe) = match bound.slot(u32::from(number)) {
         Slot::Closed => (OpenKind::Closed, false),
-        Slot::Open(held) => (kind_of(grants, bound, &held), false),
-        Slot::Maybe(held) => (kind_of(grants, bound, &held), true),
+        Slot::Open(held) => (kind_of(wide, grants, bound, &held), false),
+        Slot::Maybe(held) => (kind_of(wide, grants, bound, &held), true),
     };
     OpenState { kind, maybe }
 }
@@ -76,6 +76,7 @@ fn state_of(grants: &[Grant], bound: &Bound, number: u8) -> OpenState {
 /// What the numbers are at a point; nothing where it has no bound.
 pub(crate) fn states_at(
     room: &mut Room,
+    wide: bool,
     grants: &[Grant],
     bounds: &[Option<Bound>],
     numbers: &[u8],
@@ -84,7 +85,7 @@ pub(crate) fn states_at(
     let mut states = room.list();
     if let Some(bound) = bound_at(bounds, point) {
         for number in numbers {
-            let state = state_of(grants, bound, *number);
+            let state = state_of(wide, grants, bound, *number);
             room.push(&mut states, state);
         }
     }
@@ -103,8 +104,8 @@ fn tone_of(kind: OpenKind) -> Tone {
 }
 
 /// What is told of a number.
-fn change_of(room: &mut Room, grants: &[Grant], bound: &Bound, number: u8) -> Change {
-    let tone = tone_of(state_of(grants, bound, number).kind);
+fn change_of(room: &mut Room, wide: bool, grants: &[Grant], bound: &Bound, number: u8) -> Change {
+    let tone = tone_of(state_of(wide, grants, bound, number).kind);
     let (held, word) = match bound.slot(u32::from(number)) {
         Slot::Closed => {
             let text = room.text(parts_of!(number, " closed"));
@@ -113,7 +114,11 @@ fn change_of(room: &mut Room, grants: &[Grant], bound: &Bound, number: u8) -> Ch
         Slot::Open(held) => (held, " "),
         Slot::Maybe(held) => (held, " maybe "),
     };
-    let text = room.text(parts_of!(number, word, held.target(), " ", held.rights().greatest()));
+    let told = ToldRights {
+        wide,
+        rights: held.rights().greatest(),
+    };
+    let text = room.text(parts_of!(number, word, held.target(), " ", told));
     Change { tone, text }
 }
 
@@ -133,6 +138,7 @@ fn is_told(bound: &Bound, before: Option<&Bound>, number: u8) -> bool {
 /// What changed before a point.
 pub(crate) fn changes_at(
     room: &mut Room,
+    wide: bool,
     grants: &[Grant],
     bounds: &[Option<Bound>],
     numbers: &[u8],
@@ -148,7 +154,7 @@ pub(crate) fn changes_at(
     };
     for number in numbers {
         if is_told(bound, before, *number) {
-            let change = change_of(room, grants, bound, *number);
+            let change = change_of(room, wide, grants, bound, *number);
             room.push(&mut changes, change);
         }
     }

@@ -149,7 +149,7 @@ pub(crate) fn held_on_side(
 /// What an untrusted program may hold in the mode: its authority.
 fn held_by_authority(room: &mut Room, task: &Task, cert: &Cert, program: &Name) -> Holdings {
     let mut holdings = Holdings::none(room, task);
-    let allowed = allowance_at(cert, program);
+    let allowed = allowance_at(cert, program, task.further_rights());
     for ceiling in allowed.ceilings {
         holdings.add_granted(task, ceiling.grant(), ceiling.rights());
     }

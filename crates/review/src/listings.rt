@@ -10,7 +10,7 @@ use checker::{BrokenRule, allowance_at};
 use explain::{Observation, Topic, finding_words, line_of};
 use page::{Line, Listing, Mode, Piece, Remark, RemarkKind};
 use task_text::SourceLine;
-use texts::parts_of;
+use texts::{ToldRights, parts_of};
 
 /// What stands in front of where an error leads.
 const ELSE: &[u8] = b" else ";
@@ -118,15 +118,18 @@ fn add_authority(
     reviewed: &Reviewed<'_>,
     viewed: &Viewed<'_>,
 ) {
-    let allowed = allowance_at(reviewed.scene.cert, &viewed.named.name);
+    let allowed = allowance_at(
+        reviewed.scene.cert,
+        &viewed.named.name,
+        reviewed.scene.task.further_rights(),
+    );
     for ceiling in allowed.ceilings {
         let grant = ceiling.grant().as_bytes();
-        let paragraph = room.sentence(parts_of!(
-            "in the mode: grant ",
-            grant,
-            " ",
-            ceiling.rights()
-        ));
+        let told = ToldRights {
+            wide: allowed.wide,
+            rights: ceiling.rights(),
+        };
+        let paragraph = room.sentence(parts_of!("in the mode: grant ", grant, " ", told));
         add_remark(room, remarks, RemarkKind::Authority, paragraph);
     }
     for end in allowed.ends {
@@ -201,7 +204,8 @@ fn point_line(
         Some(before) => mode_of(has_bounds, bounds, before) != mode,
     };
     let (text, tail) = source.instruction.split_at(tail_begin(source.instruction));
-    let grants = reviewed.scene.task.grants();
+    let task = reviewed.scene.task;
+    let (wide, grants) = (task.further_rights(), task.grants());
     Line {
         number: source.number,
         point: Some(short(point)),
@@ -211,13 +215,13 @@ fn point_line(
         } else {
             ""
         },
-        states: states_at(room, grants, bounds, numbers, point),
+        states: states_at(room, wide, grants, bounds, numbers, point),
         indent: room.text(source.before),
         text: room.text(text),
         tail: room.text(tail),
         comment: room.text(source.behind),
         is_broken: is_broken_at(reviewed.findings, viewed.number, point),
-        changes: changes_at(room, grants, bounds, numbers, point),
+        changes: changes_at(room, wide, grants, bounds, numbers, point),
         remarks: remarks_at(room, reviewed, viewed, point),
     }
 }

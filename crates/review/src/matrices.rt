@@ -107,6 +107,30 @@ fn count_text(room: &mut Room, cells: &[Cell]) -> Vec<u8> {
     room.bytes(page)
 }
 
+/// Which further rights are held, and which of them beyond the grant; nothing of a task that asks for none.
+fn further_text(room: &mut Room, wide: bool, share: &Share) -> Vec<u8> {
+    let further = Rights::further();
+    let (held, beyond) = (
+        share.held.intersection(further),
+        share.beyond.intersection(further),
+    );
+    if !wide || held == Rights::empty() {
+        return room.list();
+    }
+    let mut page = Page::new(room.alloc());
+    if held == further {
+        say!(&mut page; "all");
+    } else {
+        say!(&mut page; held);
+    }
+    if beyond == held {
+        say!(&mut page; ", all beyond the grant");
+    } else if beyond != Rights::empty() {
+        say!(&mut page; ", of which beyond the grant ", beyond);
+    }
+    room.bytes(page)
+}
+
 /// The row of a grant.
 fn grant_row(
     room: &mut Room,
@@ -115,13 +139,14 @@ fn grant_row(
     grant: &Grant,
     held: Rights,
 ) -> MatrixRow {
-    let grants = reviewed.scene.task.grants();
+    let task = reviewed.scene.task;
+    let (wide, grants) = (task.further_rights(), task.grants());
     let target = Target::InGrant(grant.name);
     let share = Share {
         held,
         used: used_on_side(viewed, Side::Inside, &target),
-        beyond: unlisted_rights(grants, &grant.name, held),
-        unlisted: unlisted_rights(grants, &grant.name, Rights::all()),
+        beyond: unlisted_rights(wide, grants, &grant.name, held),
+        unlisted: unlisted_rights(wide, grants, &grant.name, Rights::all()),
         is_broken: is_broken_in(reviewed.findings, viewed, Side::Inside, &target),
     };
     let cells = share.cells();
@@ -130,6 +155,7 @@ fn grant_row(
         path: room.text(grant.path.text()),
         cells,
         count: count_text(room, &cells),
+        further: further_text(room, wide, &share),
         tone: if share.beyond == Rights::empty() {
             Tone::Plain
         } else {
@@ -139,7 +165,7 @@ fn grant_row(
 }
 
 /// The row of what lies in no grant.
-fn nowhere_row(room: &mut Room, held: Rights) -> MatrixRow {
+fn nowhere_row(room: &mut Room, wide: bool, held: Rights) -> MatrixRow {
     let share = Share {
         held,
         used: held,
@@ -152,6 +178,7 @@ fn nowhere_row(room: &mut Room, held: Rights) -> MatrixRow {
         path: room.list(),
         cells: share.cells(),
         count: room.text("in no grant"),
+        further: further_text(room, wide, &share),
         tone: Tone::Broken,
     }
 }
@@ -171,7 +198,7 @@ fn rows_of(
         }
     }
     if let Some(held) = holdings.nowhere {
-        let row = nowhere_row(room, held);
+        let row = nowhere_row(room, reviewed.scene.task.further_rights(), held);
         room.push(&mut rows, row);
     }
     rows
@@ -197,6 +224,6 @@ pub(crate) fn matrix_of(
     if groups.is_empty() || !reviewed.has_bounds {
         return None;
     }
-    let points = point_groups(room, reviewed.scene.task.grants(), views);
+    let points = point_groups(room, reviewed.scene.task, views);
     Some(Matrix { groups, points })
 }

@@ -15,7 +15,7 @@ use instruction_set::Instruction;
 use page::{Half, HalfKind, Note, Picture, Program, Row, Target, Tone};
 use remarks::unlisted_rights;
 use rights::Rights;
-use task::Grant;
+use task::{Grant, Task};
 use texts::{Page, Say, parts_of, say};
 use transfer::{channel_at, enters_mode};
 
@@ -38,19 +38,27 @@ fn count_rights(rights: Rights) -> u32 {
     Flags::bits(&rights).count_ones()
 }
 
-/// Rights with blanks between them.
+/// Rights with blanks between them, of a task that asks for further rights or of another.
 #[derive(Clone, Copy)]
-struct Spaced(Rights);
+struct Spaced {
+    wide: bool,
+    rights: Rights,
+}
 
 impl Say for Spaced {
     ghost said = { λ rights. None };
 
     fn say(self, page: &mut Page) {
-        if self.0 == Rights::all() {
+        let (told, all) = if self.wide {
+            (self.rights, Rights::all())
+        } else {
+            (self.rights.noted(), Rights::plain())
+        };
+        if told == all {
             return "all rights".say(page);
         }
         let mut separator: &[u8] = b"";
-        for (name, _right) in Flags::iter_names(&self.0) {
+        for (name, _right) in Flags::iter_names(&told) {
             say!(page; separator, name);
             separator = b" ";
         }
@@ -107,12 +115,13 @@ fn grant_row(
 ) -> Row {
     let task = reviewed.scene.task;
     let target = Kind::InGrant(grant.name);
-    let beyond = unlisted_rights(task.grants(), &grant.name, rights);
+    let wide = task.further_rights();
+    let beyond = unlisted_rights(wide, task.grants(), &grant.name, rights);
     let is_broken = is_broken_in(reviewed.findings, of.viewed, of.side, &target);
     let tone = grant_tone(beyond, is_broken);
     Row {
         name: room.text(grant.name.as_bytes()),
-        held: room.text(Spaced(rights)),
+        held: room.text(Spaced { wide, rights }),
         notes: grant_notes(room, beyond, is_broken),
         target: Target::Panel(place),
         tone,
@@ -122,10 +131,11 @@ fn grant_row(
 }
 
 /// The row of what lies in no grant.
-fn nowhere_row(room: &mut Room, place: usize, rights: Rights) -> Row {
+fn nowhere_row(room: &mut Room, task: &Task, rights: Rights) -> Row {
+    let (wide, place) = (task.further_rights(), task.grants().len());
     Row {
         name: room.text("in no grant"),
-        held: room.text(Spaced(rights)),
+        held: room.text(Spaced { wide, rights }),
         notes: room.list(),
         target: Target::Panel(place),
         tone: Tone::Broken,
@@ -135,7 +145,7 @@ fn nowhere_row(room: &mut Room, place: usize, rights: Rights) -> Row {
 }
 
 /// What an end sends, by the line of its channel: a descriptor, if it sends one.
-fn end_note(room: &mut Room, cert: &Cert, end: &HeldEnd) -> Vec<Note> {
+fn end_note(room: &mut Room, wide: bool, cert: &Cert, end: &HeldEnd) -> Vec<Note> {
     let mut notes = room.list();
     let Some(channel) = channel_at(cert, &end.class, end.side) else {
         return notes;
@@ -146,7 +156,10 @@ fn end_note(room: &mut Room, cert: &Cert, end: &HeldEnd) -> Vec<Note> {
             text: room.text("sends bytes alone"),
         },
         Some(held) => {
-            let rights = Spaced(held.rights().greatest());
+            let rights = Spaced {
+                wide,
+                rights: held.rights().greatest(),
+            };
             Note {
                 tone: Tone::InMode,
                 text: room.text(parts_of!("sends ", held.target(), " ", rights)),
@@ -166,14 +179,17 @@ fn sends_descriptors(cert: &Cert, class: &Class, side: certificate::Side) -> boo
 }
 
 /// The row of an end of a pair.
-fn end_row(room: &mut Room, cert: &Cert, classes: &mut Classes, end: &HeldEnd) -> Row {
+fn end_row(room: &mut Room, wide: bool, cert: &Cert, classes: &mut Classes, end: &HeldEnd) -> Row {
     let takes = sends_descriptors(cert, &end.class, end.side.other());
     let passes = takes || sends_descriptors(cert, &end.class, end.side);
     let number = class_number(room, classes, end.class);
     Row {
         name: room.text(parts_of!("pair ", end.class, " ", end.side)),
-        held: room.text(Spaced(end.rights)),
-        notes: end_note(room, cert, end),
+        held: room.text(Spaced {
+            wide,
+            rights: end.rights,
+        }),
+        notes: end_note(room, wide, cert, end),
         target: Target::Pair(number),
         tone: Tone::Plain,
         wire: if passes { Tone::InMode } else { Tone::Faint },
@@ -188,6 +204,7 @@ fn rows_inside(
     classes: &mut Classes,
     of: HalfView<'_>,
 ) -> Vec<Row> {
+    let wide = reviewed.scene.task.further_rights();
     let mut rows = room.list();
     for (place, grant) in reviewed.scene.task.grants().iter().enumerate() {
         if let Some(Some(rights)) = of.holdings.grants.get(place) {
@@ -196,11 +213,11 @@ fn rows_inside(
         }
     }
     if let Some(rights) = of.holdings.nowhere {
-        let row = nowhere_row(room, reviewed.scene.task.grants().len(), rights);
+        let row = nowhere_row(room, reviewed.scene.task, rights);
         room.push(&mut rows, row);
     }
     for end in &of.holdings.ends {
-        let row = end_row(room, reviewed.scene.cert, classes, end);
+        let row = end_row(room, wide, reviewed.scene.cert, classes, end);
         room.push(&mut rows, row);
     }
     rows
@@ -209,15 +226,16 @@ fn rows_inside(
 /// The rows of a half outside the mode: the ends that the half in the mode hasn't.
 fn rows_outside(
     room: &mut Room,
-    cert: &Cert,
+    reviewed: &Reviewed<'_>,
     classes: &mut Classes,
     outside: &Holdings,
     inside: &Holdings,
 ) -> Vec<Row> {
+    let (wide, cert) = (reviewed.scene.task.further_rights(), reviewed.scene.cert);
     let mut rows = room.list();
     for end in &outside.ends {
         if !inside.has_end(end) {
-            let row = end_row(room, cert, classes, end);
+            let row = end_row(room, wide, cert, classes, end);
             room.push(&mut rows, row);
         }
     }
@@ -254,7 +272,7 @@ fn outside_half(
         title: room.text("outside the mode"),
         points: points_text(room, points),
         breaks: breaks(room, reviewed.findings, viewed, Side::Outside),
-        rows: rows_outside(room, reviewed.scene.cert, classes, &holdings, inside),
+        rows: rows_outside(room, reviewed, classes, &holdings, inside),
     }
 }
 

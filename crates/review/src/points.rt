@@ -5,8 +5,8 @@ use crate::room::{Room, short};
 use crate::views::Viewed;
 use certificate::{Bound, ModeBound, Target};
 use page::{Piece, Place, PointGroup};
-use task::Grant;
-use texts::{Name, Page, parts_of, say};
+use task::{Grant, Task};
+use texts::{Name, Page, ToldRights, parts_of, say};
 
 /// Where a process is to the mode, in words.
 fn mode_words(mode: ModeBound) -> &'static str {
@@ -26,7 +26,7 @@ fn known_grant(grants: &[Grant], name: Name) -> Option<Name> {
 }
 
 /// What a bound says of nodes: each number that may be open on what lies in a grant, or in none.
-fn bound_text(room: &mut Room, grants: &[Grant], bound: &Bound) -> Vec<u8> {
+fn bound_text(room: &mut Room, wide: bool, grants: &[Grant], bound: &Bound) -> Vec<u8> {
     let mut page = Page::new(room.alloc());
     say!(&mut page; mode_words(bound.mode()), ": ");
     let mut separator = "";
@@ -34,7 +34,10 @@ fn bound_text(room: &mut Room, grants: &[Grant], bound: &Bound) -> Vec<u8> {
         let Some(held) = slot.held() else {
             continue;
         };
-        let rights = held.rights().greatest();
+        let rights = ToldRights {
+            wide,
+            rights: held.rights().greatest(),
+        };
         let grant = match held.target() {
             Target::Socket(..) => continue,
             Target::InGrant(name) => known_grant(grants, name),
@@ -99,11 +102,12 @@ fn add_point(room: &mut Room, stretches: &mut Vec<Stretch>, point: usize, text: 
 }
 
 /// What is held point by point in a program.
-fn point_group(room: &mut Room, grants: &[Grant], viewed: &Viewed<'_>) -> PointGroup {
+fn point_group(room: &mut Room, task: &Task, viewed: &Viewed<'_>) -> PointGroup {
+    let (wide, grants) = (task.further_rights(), task.grants());
     let mut stretches = room.list();
     for (point, bound) in viewed.bounds.iter().enumerate() {
         if let Some(bound) = bound {
-            let text = bound_text(room, grants, bound);
+            let text = bound_text(room, wide, grants, bound);
             add_point(room, &mut stretches, point, text);
         }
     }
@@ -119,14 +123,10 @@ fn point_group(room: &mut Room, grants: &[Grant], viewed: &Viewed<'_>) -> PointG
 }
 
 /// What is held point by point.
-pub(crate) fn point_groups(
-    room: &mut Room,
-    grants: &[Grant],
-    views: &[Viewed<'_>],
-) -> Vec<PointGroup> {
+pub(crate) fn point_groups(room: &mut Room, task: &Task, views: &[Viewed<'_>]) -> Vec<PointGroup> {
     let mut groups = room.list();
     for viewed in views {
-        let group = point_group(room, grants, viewed);
+        let group = point_group(room, task, viewed);
         if !group.items.is_empty() {
             room.push(&mut groups, group);
         }

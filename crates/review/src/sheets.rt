@@ -28,13 +28,14 @@ fn is_broken(reviewed: &Reviewed<'_>, rule: Rule) -> bool {
 
 /// The rules that are broken, each once, in words.
 fn broken_rules(room: &mut Room, reviewed: &Reviewed<'_>) -> Vec<RuleText> {
+    let wide = reviewed.scene.task.further_rights();
     let mut rules = room.list();
     for rule in &RULES {
         if is_broken(reviewed, *rule) {
             let text = RuleText {
                 number: rule.number(),
                 name: room.text(rule_title(*rule)),
-                text: room.text(parts_of!(rule_words(*rule), ". ", rule_advice(*rule))),
+                text: room.text(parts_of!(rule_words(wide, *rule), ". ", rule_advice(*rule))),
             };
             room.push(&mut rules, text);
         }

@@ -5,4 +5,5 @@ pub mod Lists
 pub mod Tests
 pub mod Numbers
 pub mod NeedTable
+mod UseRows
 pub mod Words

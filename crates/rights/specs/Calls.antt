@@ -29,6 +29,7 @@ pub data Call : Type 0 where
   Cap_getmode : Call
   Socketpair : Call
   Fork : Call
+  Use : Call
 
 -- the call's word in a program
 abbrev pub call_name : Call → List ℕ
@@ -59,3 +60,4 @@ call_name Cap_enter = codes "cap_enter"
 call_name Cap_getmode = codes "cap_getmode"
 call_name Socketpair = codes "socketpair"
 call_name Fork = codes "fork"
+call_name Use = codes "use"

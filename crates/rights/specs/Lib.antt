@@ -12,5 +12,6 @@ pub mod RightViews
 pub mod Sets
 pub mod Sides
 pub mod StopViews
+pub mod Uses
 pub mod Values
 pub mod Views

@@ -33,7 +33,7 @@ openat_needs request =
     ∷ when (request.write && not (request.append || request.trunc)) seek_right ∷ when request.create create_right
     ∷ when request.trunc ftruncate_right ∷ [])
 
--- of the call's only descriptor, or of the first of two
+-- of the call's only descriptor, or of the first of two; what `use` needs goes by its operand
 abbrev pub first_needs : Call → OpenRequest → RightSet
 first_needs calls.Open request = 0
 first_needs calls.Openat request = openat_needs request
@@ -62,6 +62,7 @@ first_needs calls.Cap_enter request = 0
 first_needs calls.Cap_getmode request = 0
 first_needs calls.Socketpair request = 0
 first_needs calls.Fork request = 0
+first_needs calls.Use request = 0
 
 -- Of the second of two. A node that renameat replaces goes away as by unlinkat, and this is asked
 -- too (rights(4)). A descriptor that is sent needs nothing itself.
@@ -94,6 +95,7 @@ second_needs calls.Cap_enter replaces = 0
 second_needs calls.Cap_getmode replaces = 0
 second_needs calls.Socketpair replaces = 0
 second_needs calls.Fork replaces = 0
+second_needs calls.Use replaces = 0
 
 -- the rights that a descriptor must have for the call
 abbrev pub needs_of : Call → OpenRequest → Position → Bool → RightSet
@@ -129,3 +131,4 @@ command_needed calls.Cap_enter = 0
 command_needed calls.Cap_getmode = 0
 command_needed calls.Socketpair = 0
 command_needed calls.Fork = 0
+command_needed calls.Use = 0

@@ -45,6 +45,7 @@ call_of call.CapEnter = calls.Cap_enter
 call_of call.CapGetmode = calls.Cap_getmode
 call_of call.Socketpair = calls.Socketpair
 call_of call.Fork = calls.Fork
+call_of call.Use = calls.Use
 
 abbrev pub errno_of : ErrnoCode → errors.Errno
 errno_of errno.EPERM = errors.EPERM

@@ -34,6 +34,7 @@ pub enum Call {
     CapGetmode,
     Socketpair,
     Fork,
+    Use,
 }
 
 impl Call {
@@ -69,6 +70,7 @@ impl Call {
             Call::CapGetmode => "cap_getmode",
             Call::Socketpair => "socketpair",
             Call::Fork => "fork",
+            Call::Use => "use",
         }
     }
 }

@@ -13,6 +13,7 @@ pub mod output;
 pub mod sets;
 pub mod sides;
 pub mod stops;
+pub mod uses;
 
 pub use calls::Call;
 pub use errors::{Cause, Errno};
@@ -23,3 +24,4 @@ pub use output::{Out, OutFault, write_all};
 pub use sets::{Fcntls, Rights};
 pub use sides::Side;
 pub use stops::{Memory, Stop};
+pub use uses::{acts_beneath, companions_of, is_further_right, operation_of_use, reaches_globally};

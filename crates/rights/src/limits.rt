@@ -43,7 +43,10 @@ pub const MAX_GRANTS: usize = 8;
 pub const MAX_PAIRS: u8 = 32;
 
 /// Rights, without their other names.
-pub const RIGHTS: usize = 14;
+pub const RIGHTS: usize = 46;
+
+/// Those of them that every task may name, which come first.
+pub const PLAIN_RIGHTS: usize = 14;
 
 /// Fcntl commands.
 pub const COMMANDS: usize = 2;

@@ -17,7 +17,8 @@ pub enum Position {
 
 /// The rights that the descriptor at this position must have for the call; none where the call has
 /// no such descriptor. `flags` are those of `openat`, and `replaces` says of the second descriptor of
-/// `renameat` that a node is replaced in it; where they say nothing they are ignored. (rights(4))
+/// `renameat` that a node is replaced in it; where they say nothing they are ignored. What
+/// `use` needs goes by its operand. (rights(4))
 pub fn needs(call: Call, flags: OpenFlags, position: Position, replaces: bool) -> Rights
     ensures { result.0 ≡ needs_of (call_of call) flags (position_of position) replaces }
 {
@@ -47,6 +48,7 @@ fn of_first(call: Call, flags: OpenFlags) -> Rights
         Call::Open | Call::Stat | Call::Mkdir | Call::Unlink => Rights::empty(),
         Call::Dup | Call::Close | Call::CapRightsLimit | Call::CapFcntlsLimit => Rights::empty(),
         Call::CapEnter | Call::CapGetmode | Call::Socketpair | Call::Fork => Rights::empty(),
+        Call::Use => Rights::empty(),
     }
 }
 
@@ -64,7 +66,7 @@ fn of_second(call: Call, replaces: bool) -> Rights
         Call::Fstatat | Call::Stat | Call::Mkdirat | Call::Mkdir => Rights::empty(),
         Call::Unlinkat | Call::Unlink | Call::Dup | Call::Close => Rights::empty(),
         Call::CapRightsLimit | Call::CapFcntlsLimit | Call::CapEnter => Rights::empty(),
-        Call::CapGetmode | Call::Socketpair | Call::Fork => Rights::empty(),
+        Call::CapGetmode | Call::Socketpair | Call::Fork | Call::Use => Rights::empty(),
     }
 }
 
@@ -102,6 +104,6 @@ pub fn command_needed(call: Call) -> Fcntls
         Call::Renameat | Call::Dup | Call::Close | Call::CapRightsLimit => Fcntls::empty(),
         Call::CapFcntlsLimit | Call::CapEnter | Call::CapGetmode | Call::Socketpair =>
             Fcntls::empty(),
-        Call::Fork => Fcntls::empty(),
+        Call::Fork | Call::Use => Fcntls::empty(),
     }
 }

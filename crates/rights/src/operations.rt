@@ -70,7 +70,7 @@ pub struct RightOperation {
 }
 
 /// The table.
-const RIGHT_OPERATIONS: [RightOperation; 10] = [
+const RIGHT_OPERATIONS: [RightOperation; 24] = [
     RightOperation {
         right: Rights::READ,
         operation: Op::Read,
@@ -110,6 +110,62 @@ const RIGHT_OPERATIONS: [RightOperation; 10] = [
     RightOperation {
         right: Rights::RENAMEAT_TARGET,
         operation: Op::Create,
+    },
+    RightOperation {
+        right: Rights::CONNECTAT,
+        operation: Op::Write,
+    },
+    RightOperation {
+        right: Rights::FCHFLAGS,
+        operation: Op::Write,
+    },
+    RightOperation {
+        right: Rights::FCHMOD,
+        operation: Op::Write,
+    },
+    RightOperation {
+        right: Rights::FCHMODAT,
+        operation: Op::Write,
+    },
+    RightOperation {
+        right: Rights::FCHOWN,
+        operation: Op::Write,
+    },
+    RightOperation {
+        right: Rights::FCHOWNAT,
+        operation: Op::Write,
+    },
+    RightOperation {
+        right: Rights::FEXECVE,
+        operation: Op::Read,
+    },
+    RightOperation {
+        right: Rights::FPATHCONF,
+        operation: Op::Look,
+    },
+    RightOperation {
+        right: Rights::FSTATFS,
+        operation: Op::Look,
+    },
+    RightOperation {
+        right: Rights::FUTIMES,
+        operation: Op::Write,
+    },
+    RightOperation {
+        right: Rights::FUTIMESAT,
+        operation: Op::Write,
+    },
+    RightOperation {
+        right: Rights::MMAP_R,
+        operation: Op::Read,
+    },
+    RightOperation {
+        right: Rights::MMAP_W,
+        operation: Op::Write,
+    },
+    RightOperation {
+        right: Rights::MMAP_X,
+        operation: Op::Read,
     },
 ];
 

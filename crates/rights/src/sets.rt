@@ -1,16 +1,17 @@
 //! Sets of rights and of fcntl commands.
 
 ghost use Rattle.std.specs.Prelude.{⊤, ◌≡◌, ◌↔◌, IsTrue, bit_and, bit_or};
-ghost use Rattle.rights.specs.Sets.{IsWithin, all_commands, all_rights, command_names, is_within, right_names};
+ghost use Rattle.rights.specs.Sets.{IsWithin, all_commands, all_rights, both_parts, command_names, further_part, further_rights, is_within, plain_part, plain_rights, right_names};
+ghost use Rattle.rights.specs.Uses.{asked_rights, noted_rights};
 
 use bitflags::{Flag, Flags};
 
-/// A set of rights on a descriptor. A clause sees the number that has bit k where right k is held.
-/// (rights(4), in this profile's fourteen)
+/// A set of rights on a descriptor. A clause sees the number that has bit k where right k is held: the
+/// fourteen that every task may name come first, and then thirty-two further ones. (rights(4))
 #[derive(Clone, Copy, PartialEq, Eq)]
-pub struct Rights(u16);
+pub struct Rights(pub(crate) u64);
 
-const RIGHTS: [Flag<Rights>; 16] = [
+const RIGHTS: [Flag<Rights>; 48] = [
     Flag {
         name: "READ",
         value: Rights(0x0001),
@@ -68,6 +69,134 @@ const RIGHTS: [Flag<Rights>; 16] = [
         value: Rights(0x2000),
     },
     Flag {
+        name: "ACCEPT",
+        value: Rights(0x4000),
+    },
+    Flag {
+        name: "BIND",
+        value: Rights(0x8000),
+    },
+    Flag {
+        name: "CONNECT",
+        value: Rights(0x10000),
+    },
+    Flag {
+        name: "CONNECTAT",
+        value: Rights(0x20000),
+    },
+    Flag {
+        name: "EVENT",
+        value: Rights(0x40000),
+    },
+    Flag {
+        name: "FCHDIR",
+        value: Rights(0x80000),
+    },
+    Flag {
+        name: "FCHFLAGS",
+        value: Rights(0x100000),
+    },
+    Flag {
+        name: "FCHMOD",
+        value: Rights(0x200000),
+    },
+    Flag {
+        name: "FCHMODAT",
+        value: Rights(0x400000),
+    },
+    Flag {
+        name: "FCHOWN",
+        value: Rights(0x800000),
+    },
+    Flag {
+        name: "FCHOWNAT",
+        value: Rights(0x1000000),
+    },
+    Flag {
+        name: "FEXECVE",
+        value: Rights(0x2000000),
+    },
+    Flag {
+        name: "FLOCK",
+        value: Rights(0x4000000),
+    },
+    Flag {
+        name: "FPATHCONF",
+        value: Rights(0x8000000),
+    },
+    Flag {
+        name: "FSTATFS",
+        value: Rights(0x10000000),
+    },
+    Flag {
+        name: "FUTIMES",
+        value: Rights(0x20000000),
+    },
+    Flag {
+        name: "FUTIMESAT",
+        value: Rights(0x40000000),
+    },
+    Flag {
+        name: "GETPEERNAME",
+        value: Rights(0x80000000),
+    },
+    Flag {
+        name: "GETSOCKNAME",
+        value: Rights(0x100000000),
+    },
+    Flag {
+        name: "GETSOCKOPT",
+        value: Rights(0x200000000),
+    },
+    Flag {
+        name: "IOCTL",
+        value: Rights(0x400000000),
+    },
+    Flag {
+        name: "KQUEUE_CHANGE",
+        value: Rights(0x800000000),
+    },
+    Flag {
+        name: "KQUEUE_EVENT",
+        value: Rights(0x1000000000),
+    },
+    Flag {
+        name: "LISTEN",
+        value: Rights(0x2000000000),
+    },
+    Flag {
+        name: "MMAP_R",
+        value: Rights(0x4000000000),
+    },
+    Flag {
+        name: "MMAP_W",
+        value: Rights(0x8000000000),
+    },
+    Flag {
+        name: "MMAP_X",
+        value: Rights(0x10000000000),
+    },
+    Flag {
+        name: "PDGETPID",
+        value: Rights(0x20000000000),
+    },
+    Flag {
+        name: "PDKILL",
+        value: Rights(0x40000000000),
+    },
+    Flag {
+        name: "SETSOCKOPT",
+        value: Rights(0x80000000000),
+    },
+    Flag {
+        name: "SHUTDOWN",
+        value: Rights(0x100000000000),
+    },
+    Flag {
+        name: "TTYHOOK",
+        value: Rights(0x200000000000),
+    },
+    Flag {
         name: "RECV",
         value: Rights(0x0001),
     },
@@ -119,6 +248,103 @@ impl Rights {
 
     /// To rename nodes to places beneath the directory.
     pub const RENAMEAT_TARGET: Rights = Rights(0x2000);
+
+    /// To take a connection that comes to the socket.
+    pub const ACCEPT: Rights = Rights(0x4000);
+
+    /// To give the socket a name.
+    pub const BIND: Rights = Rights(0x8000);
+
+    /// To connect the socket to an address.
+    pub const CONNECT: Rights = Rights(0x10000);
+
+    /// To connect to a socket that has a name beneath the directory.
+    pub const CONNECTAT: Rights = Rights(0x20000);
+
+    /// To be waited for by poll, select and kevent.
+    pub const EVENT: Rights = Rights(0x40000);
+
+    /// To become the working directory.
+    pub const FCHDIR: Rights = Rights(0x80000);
+
+    /// To set the flags of the file.
+    pub const FCHFLAGS: Rights = Rights(0x100000);
+
+    /// To set the mode of the file.
+    pub const FCHMOD: Rights = Rights(0x200000);
+
+    /// To set the mode of a file beneath the directory.
+    pub const FCHMODAT: Rights = Rights(0x400000);
+
+    /// To set the owner of the file.
+    pub const FCHOWN: Rights = Rights(0x800000);
+
+    /// To set the owner of a file beneath the directory.
+    pub const FCHOWNAT: Rights = Rights(0x1000000);
+
+    /// To be executed.
+    pub const FEXECVE: Rights = Rights(0x2000000);
+
+    /// To be locked.
+    pub const FLOCK: Rights = Rights(0x4000000);
+
+    /// To ask for the limits that hold for the file.
+    pub const FPATHCONF: Rights = Rights(0x8000000);
+
+    /// To ask for the file system that the file is on.
+    pub const FSTATFS: Rights = Rights(0x10000000);
+
+    /// To set the times of the file.
+    pub const FUTIMES: Rights = Rights(0x20000000);
+
+    /// To set the times of a file beneath the directory.
+    pub const FUTIMESAT: Rights = Rights(0x40000000);
+
+    /// To ask for the address at the other end.
+    pub const GETPEERNAME: Rights = Rights(0x80000000);
+
+    /// To ask for the socket's own address.
+    pub const GETSOCKNAME: Rights = Rights(0x100000000);
+
+    /// To ask for options of the socket.
+    pub const GETSOCKOPT: Rights = Rights(0x200000000);
+
+    /// To be asked and set by ioctl.
+    pub const IOCTL: Rights = Rights(0x400000000);
+
+    /// To change what the queue waits for.
+    pub const KQUEUE_CHANGE: Rights = Rights(0x800000000);
+
+    /// To take events from the queue.
+    pub const KQUEUE_EVENT: Rights = Rights(0x1000000000);
+
+    /// To have connections come to the socket.
+    pub const LISTEN: Rights = Rights(0x2000000000);
+
+    /// To be mapped for reading.
+    pub const MMAP_R: Rights = Rights(0x4000000000);
+
+    /// To be mapped for writing.
+    pub const MMAP_W: Rights = Rights(0x8000000000);
+
+    /// To be mapped for execution.
+    pub const MMAP_X: Rights = Rights(0x10000000000);
+
+    /// To ask for the number of the process.
+    pub const PDGETPID: Rights = Rights(0x20000000000);
+
+    /// To send the process a signal.
+    pub const PDKILL: Rights = Rights(0x40000000000);
+
+    /// To set options of the socket.
+    pub const SETSOCKOPT: Rights = Rights(0x80000000000);
+
+    /// To shut the connection down.
+    pub const SHUTDOWN: Rights = Rights(0x100000000000);
+
+    /// To have a terminal hooked.
+    pub const TTYHOOK: Rights = Rights(0x200000000000);
+
     /// Another name of `READ`.
     pub const RECV: Rights = Rights::READ;
     /// Another name of `WRITE`.
@@ -131,11 +357,69 @@ impl Rights {
         <Rights as Flags>::empty()
     }
 
-    /// The set of all fourteen.
+    /// The set of all.
     pub fn all() -> Rights
         ensures { result.0 ≡ all_rights }
     {
-        <Rights as Flags>::all()
+        Rights(0x3fff_ffff_ffff)
+    }
+
+    /// The set of the fourteen that every task may name.
+    pub fn plain() -> Rights
+        ensures { result.0 ≡ plain_rights }
+    {
+        Rights(0x3fff)
+    }
+
+    /// The set of the further rights, which a task may name that asks for them.
+    pub fn further() -> Rights
+        ensures { result.0 ≡ further_rights }
+    {
+        Rights(0x3fff_ffff_c000)
+    }
+
+    /// Which of the fourteen are in the set, by bit.
+    pub fn plain_part(self) -> u16
+        ensures { result ≡ plain_part self.0 }
+    {
+        (self.0 % 0x4000) as u16
+    }
+
+    /// Which of the further rights are in the set, by bit from 0.
+    pub fn further_part(self) -> u32
+        ensures { result ≡ further_part self.0 }
+    {
+        (self.0 / 0x4000 % 0x1_0000_0000) as u32
+    }
+
+    /// The set without the further rights, where all of these are in it: of a task that asks for none each set has all of them or
+    /// none, and nothing is to be said of them. (own)
+    pub fn noted(self) -> Rights
+        ensures { result.0 ≡ noted_rights self.0 }
+    {
+        if self.contains(Rights::further()) {
+            self.intersection(Rights::plain())
+        } else {
+            self
+        }
+    }
+
+    /// Those of the set that a task asks about: all where it asks for further rights, and else those that every task may name. (own)
+    pub fn asked(self, wide: bool) -> Rights
+        ensures { result.0 ≡ asked_rights wide self.0 }
+    {
+        if wide {
+            self
+        } else {
+            self.intersection(Rights::plain())
+        }
+    }
+
+    /// The set with these of the fourteen, whose bits are below 14, and these of the further rights.
+    pub fn of_parts(plain: u16, further: u32) -> Rights
+        ensures { result.0 ≡ both_parts plain further }
+    {
+        Rights(u64::from(plain) + 0x4000 * u64::from(further))
     }
 
     /// Whether each right of `other` is in this set.
@@ -162,7 +446,7 @@ impl Rights {
 }
 
 impl Flags for Rights {
-    type Bits = u16;
+    type Bits = u64;
 
     ghost exact = { ⊤ };
 
@@ -174,11 +458,11 @@ impl Flags for Rights {
         &RIGHTS
     }
 
-    fn bits(&self) -> u16 {
+    fn bits(&self) -> u64 {
         self.0
     }
 
-    fn from_bits_retain(bits: u16) -> Rights {
+    fn from_bits_retain(bits: u64) -> Rights {
         Rights(bits)
     }
 }

@@ -1,18 +1,18 @@
 -- Soundness: where the rules are met, each run is confined.
-use Rattle.std.proofs.Common.{◌≡◌, ℕ, Bool, true, false, List, [], ◌∷◌, refl, ap, sym, ◌∙◌, subst, length}
-use Rattle.std.specs.Prelude.{◌&&◌, ◌||◌, not, Option, Some, None, IfSome}
+use Rattle.std.proofs.Common.{◌≡◌, ℕ, zero, suc, Bool, true, false, List, [], ◌∷◌, refl, ap, sym, ◌∙◌, subst, length}
+use Rattle.std.specs.Prelude.{◌&&◌, map, not, Option, Some, None, IfSome}
 use Rattle.std.specs.List.{slice_get}
 use Rattle.std.specs.Option.{option_map}
 use Rattle.std.specs.Cmp.Derive.{both_true}
 use Rattle.rights.proofs.Tests.{both_left, both_right}
 use Rattle.process.specs.State.{Deed, ProcessState, handed_to}
 use Rattle.certificate.specs.Bounds.{Certificate}
-use Rattle.instruction_set.specs.Programs.{Instruction, Cap_enter, Invoke}
+use Rattle.instruction_set.specs.Programs.{Instruction}
 use Rattle.kernel.specs.World.{World, Choice, IsFresh}
 use Rattle.kernel.specs.Answers.{Event, IsEvent}
-use Rattle.kernel.specs.Hostile.{Act, Own, Does, IsAct, about}
+use Rattle.kernel.specs.Hostile.{Act, Own, Does, about}
 use Rattle.kernel.specs.Origins.{caller_of}
-use Rattle.kernel.specs.Steps.{Acted, Executed, Stepped, acted_as, after_deed, changed_at, executed, next_instruction, stepped_at, stepped_by, stepped, step}
+use Rattle.kernel.specs.Steps.{Acted, Executed, Stepped, acted_as, after_deed, executed, next_instruction, stepped_at, stepped_by, stepped, step}
 use Rattle.kernel.specs.Walks.{call_in, under_way}
 use Rattle.kernel.specs.WellFormed.{ArePrograms, IfKept, IsPoint, IsProcess, IsProcessIfMade, IsWellFormed}
 use Rattle.kernel.proofs.Deeds.{changed_at_there}
@@ -21,9 +21,10 @@ use Rattle.kernel.proofs.Hostile.{files_about, gains_about, handed_cases}
 use Rattle.kernel.proofs.Keeping.{kept}
 use Rattle.kernel.proofs.KeptWalks.{call_here}
 use Rattle.kernel.proofs.Marks.{AreMarkedAs, IsMarkedAs, step_marked}
-use Rattle.task.specs.Plans.{Plan, program_name, programs_of_plan}
-use Rattle.task.specs.Begins.{first_world}
-use Rattle.task.specs.Confined.{Confined, IsContained, IsTrusted}
+use Rattle.kernel.proofs.Spoken.{AreSpokenNext, IsSpokenNext, about_spoken, step_spoken}
+use Rattle.task.specs.Plans.{Plan, Start, program_name, programs_of_plan}
+use Rattle.task.specs.Begins.{first_process, first_world}
+use Rattle.task.specs.Confined.{AreSpoken, Confined, IsTrusted}
 use Rattle.task.specs.KeptLimits.{KeepsLimits}
 use Rattle.task.specs.Sandboxed.{AreAllowed, IsInMode, IsUnrefused}
 use Rattle.task.proofs.FirstWorlds.{first_well_formed}
@@ -34,7 +35,7 @@ use Rattle.rules.specs.Points.{instruction_at}
 use Rattle.rules.specs.Rules.{marked_at}
 use Rattle.rules.specs.Verdicts.{IsConfining, IsHeldWithin, IsSound, MeetsRules}
 use Rattle.rules.specs.Within.{HoldsWithin, StayWithin}
-use Rattle.rules.proofs.calls.Owing.{Leaves, Owed, Standing, invariant_after}
+use Rattle.rules.proofs.calls.Owing.{Owed, Standing, invariant_after}
 use Rattle.rules.proofs.hostile.About.{invariant_about}
 use Rattle.rules.proofs.hostile.Confining.{Roams}
 use Rattle.rules.proofs.hostile.Entering.{entering, enters_freely}
@@ -72,7 +73,8 @@ unmarked_follows true false is = refl
 unmarked_follows false enters is = refl
 
 module _ (plan : Plan) (certificate : Certificate) (keeps : KeepsLimits plan) (meets : MeetsRules plan certificate) where
-  module _ (w : World) (e : Event) (byte : IsEvent e) (choice : Choice) (fresh : IsFresh w.files choice) (inv : Invariant plan (bounds plan certificate) w) where
+  module _ (w : World) (e : Event) (byte : IsEvent e) (choice : Choice) (fresh : IsFresh w.files choice) (spoken : AreSpokenNext plan.wide w)
+      (inv : Invariant plan (bounds plan certificate) w) where
     module _ (s : ProcessState) (made : slice_get w.processes e.process ≡ Some s) (alive : s.alive ≡ true) where
       acts : Acts plan w e.process s choice
       acts = record { grants = keeps.grants; formed = inv.formed; made = made; fresh = fresh }
@@ -174,6 +176,8 @@ module _ (plan : Plan) (certificate : Certificate) (keeps : KeepsLimits plan) (m
           marked = both_left s.marked s.mode roams;
           mode = both_right s.marked s.mode roams;
           asked = authority (both_left s.marked s.mode roams);
+          code = keeps.programs.spoken s.program;
+          next = subst (IsSpokenNext plan.wide) made (spoken e.process);
         }
 
         roams_fine : (i : Instruction) → under_way (programs_of_plan plan) s ≡ call_in (Some i)
@@ -269,20 +273,24 @@ module _ (plan : Plan) (certificate : Certificate) (keeps : KeepsLimits plan) (m
       changed_at_there (λ b o. IsTrusted b → IsTrusted o) w.processes p (handed_to deed) p (λ o. λ is. is)
       (λ s. handed_cases (λ t. s.marked ≡ false → t.marked ≡ false) deed s (λ hostile. λ is. is) (λ is. is)) trusted
 
+  next_spoken : (u : World) → AreSpokenNext plan.wide u → (e : Event) (choice : Choice) → AreSpokenNext plan.wide (step (programs_of_plan plan) u e choice).world
+  next_spoken u spoken e choice = step_spoken plan.wide u spoken e choice (programs_of_plan plan)
+
   -- Each run from a world of the invariant is confined.
-  runs : ArePrograms (programs_of_plan plan) → (w : World) (events : List (Event × Act)) → Invariant plan (bounds plan certificate) w
-      → Confined (programs_of_plan plan) plan.grants w events
-  runs valid w [] inv = tt
-  runs valid w ((e, act) ∷ events) inv = λ choice fresh byte is.
+  runs : ArePrograms (programs_of_plan plan) → (w : World) (events : List (Event × Act)) → AreSpoken plan.wide events → AreSpokenNext plan.wide w
+      → Invariant plan (bounds plan certificate) w → Confined (programs_of_plan plan) plan.grants w events
+  runs valid w [] speak spoken inv = tt
+  runs valid w ((e, act) ∷ events) speak spoken inv = λ choice fresh byte is.
       let programs = programs_of_plan plan in
       let u : World = about w e.process act in
-      let here = one_step u e byte choice (subst (λ f. IsFresh f choice) (sym (files_about w e.process act)) fresh) (invariant_about plan certificate w e.process act is inv) valid in (
+      let here = one_step u e byte choice (subst (λ f. IsFresh f choice) (sym (files_about w e.process act)) fresh) (about_spoken plan.wide w e.process act speak.0 spoken)
+      (invariant_about plan certificate w e.process act is inv) valid in (
         record {
           allowed = λ on. here.0.allowed (mode_about w e.process act on);
           unrefused = λ trusted. here.0.unrefused (trust_about w e.process act trusted);
           gains = gains_about w e.process act (caller_of programs u e) (step programs u e choice).world (gains_nothing programs u e choice);
         },
-        runs valid (step programs u e choice).world events here.1,
+        runs valid (step programs u e choice).world events speak.1 (next_spoken u (about_spoken plan.wide w e.process act speak.0 spoken) e choice) here.1,
       )
 
   -- What is held in each world of such a run is within the authority.
@@ -291,25 +299,36 @@ module _ (plan : Plan) (certificate : Certificate) (keeps : KeepsLimits plan) (m
       let living = subst (IfAlive (IsLiving plan (bounds plan certificate) w p)) made (inv.living p) in
       subst (λ free. LivesBy plan certificate free w p s) (both_true marked mode) (living lives).asked
 
-  stay_within : ArePrograms (programs_of_plan plan) → (w : World) (events : List (Event × Act)) → Invariant plan (bounds plan certificate) w
-      → StayWithin plan certificate w events
-  stay_within valid w [] inv = holds_within w inv
-  stay_within valid w ((e, act) ∷ events) inv = (
+  stay_within : ArePrograms (programs_of_plan plan) → (w : World) (events : List (Event × Act)) → AreSpoken plan.wide events → AreSpokenNext plan.wide w
+      → Invariant plan (bounds plan certificate) w → StayWithin plan certificate w events
+  stay_within valid w [] speak spoken inv = holds_within w inv
+  stay_within valid w ((e, act) ∷ events) speak spoken inv = (
     holds_within w inv,
     λ choice fresh byte is.
         let u : World = about w e.process act in
-        let here = one_step u e byte choice (subst (λ f. IsFresh f choice) (sym (files_about w e.process act)) fresh) (invariant_about plan certificate w e.process act is inv) valid in
-        stay_within valid (step (programs_of_plan plan) u e choice).world events here.1,
+        let here = one_step u e byte choice (subst (λ f. IsFresh f choice) (sym (files_about w e.process act)) fresh) (about_spoken plan.wide w e.process act speak.0 spoken)
+        (invariant_about plan certificate w e.process act is inv) valid in
+        stay_within valid (step (programs_of_plan plan) u e choice).world events speak.1 (next_spoken u (about_spoken plan.wide w e.process act speak.0 spoken) e choice) here.1,
   )
+
+-- at first nothing is to be done besides the programs
+first_spoken : (plan : Plan) → AreSpokenNext plan.wide (first_world plan)
+unfolding first_world
+first_spoken plan p = go plan.starts p
+  where
+    go : (starts : List Start) (p : ℕ) → IsSpokenNext plan.wide (slice_get (map (first_process plan.programs) starts) p)
+    go [] p = tt
+    go (s ∷ starts) zero = tt
+    go (s ∷ starts) (suc p) = go starts p
 
 -- Soundness, whatever programs are marked.
 pub confining : IsConfining
-confining plan certificate valid meets events =
-    runs plan certificate (plans_keep_limits plan valid) meets (first_well_formed plan valid).0 (first_world plan) events (first_invariant plan certificate valid meets)
+confining plan certificate valid meets events speak =
+    runs plan certificate (plans_keep_limits plan valid) meets (first_well_formed plan valid).0 (first_world plan) events speak (first_spoken plan) (first_invariant plan certificate valid meets)
 
 pub sound : IsSound
 sound plan certificate valid none meets = trusted_tasks_are_sandboxed plan valid none (confining plan certificate valid meets)
 
 pub held_within : IsHeldWithin
-held_within plan certificate valid meets events =
-    stay_within plan certificate (plans_keep_limits plan valid) meets (first_well_formed plan valid).0 (first_world plan) events (first_invariant plan certificate valid meets)
+held_within plan certificate valid meets events speak =
+    stay_within plan certificate (plans_keep_limits plan valid) meets (first_well_formed plan valid).0 (first_world plan) events speak (first_spoken plan) (first_invariant plan certificate valid meets)

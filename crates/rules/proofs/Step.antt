@@ -3,7 +3,7 @@ use Rattle.std.proofs.Common.{ℕ}
 use Rattle.process.specs.State.{ProcessState}
 use Rattle.certificate.specs.Bounds.{Certificate}
 use Rattle.instruction_set.specs.Programs.{Syscall, Open, Openat, Read, Write, Sendfd, Recvfd, Lseek, Ftruncate, Fsync, Fstat, Fcntl_getfl, Fcntl_setfl, Fstatat, Stat, Mkdirat, Mkdir}
-use Rattle.instruction_set.specs.Programs.{Unlinkat, Unlink, Renameat, Dup, Close, Cap_rights_limit, Cap_fcntls_limit, Cap_enter, Cap_getmode, Socketpair, Fork, Instruction, Set, Mov}
+use Rattle.instruction_set.specs.Programs.{Unlinkat, Unlink, Renameat, Dup, Close, Cap_rights_limit, Cap_fcntls_limit, Cap_enter, Cap_getmode, Socketpair, Fork, Use as Call_use, Instruction, Set, Mov}
 use Rattle.instruction_set.specs.Programs.{Add, In, Jmp, Jeq, Jlt, Halt, Invoke}
 use Rattle.kernel.specs.World.{World, Choice}
 use Rattle.kernel.specs.Answers.{Event, IsEvent}
@@ -14,6 +14,7 @@ use Rattle.rules.specs.Seen.{table_seen}
 use Rattle.rules.proofs.outcomes.Plain.{plain_moves}
 use Rattle.rules.proofs.calls.Owing.{Standing, Owed, owed_halt}
 use Rattle.rules.proofs.calls.OwedCalls.{OwedBy, owed_of, plain_owed}
+use Rattle.rules.proofs.calls.UseCalls.{owed_use}
 use Rattle.rules.proofs.calls.QuietCalls.{owed_cap_getmode, owed_cap_enter, owed_getfl, owed_fsync}
 use Rattle.rules.proofs.calls.FileCalls.{owed_read, owed_write, owed_lseek, owed_ftruncate, owed_setfl, owed_fstat}
 use Rattle.rules.proofs.calls.LookCalls.{owed_fstatat, owed_stat}
@@ -55,6 +56,7 @@ module _ (plan : Plan) (certificate : Certificate) (w : World) (e : Event) (s : 
   owed_answer Cap_enter = owed_cap_enter plan certificate w e s choice
   owed_answer Cap_getmode = owed_cap_getmode plan certificate w e s choice
   owed_answer Socketpair = owed_socketpair plan certificate w e s choice
+  owed_answer (Call_use x right) = λ otherwise known. owed_use plan certificate w e s choice x right otherwise known
   owed_answer Fork = owed_fork plan certificate w e s choice
 
   pub owed_executed : (i : Instruction) → IsEvent e → (known : Standing plan certificate w e.process s choice i)

@@ -5,6 +5,7 @@ pub mod OwedChanges
 pub mod OwedTests
 pub mod OwedLookups
 pub mod QuietCalls
+pub mod UseCalls
 pub mod TableCalls
 pub mod FileCalls
 pub mod LookCalls

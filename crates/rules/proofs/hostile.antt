@@ -1,4 +1,5 @@
 -- Processes of marked programs in the mode, whatever they do.
+pub mod Unsaid
 pub mod Ceilings
 pub mod Confining
 pub mod Parts

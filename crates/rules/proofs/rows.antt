@@ -2,6 +2,7 @@
 pub mod Samples
 pub mod Rows
 pub mod UseRows
+mod FurtherRows
 pub mod OutcomeRows
 pub mod SettledRows
 pub mod Probed

@@ -1,8 +1,9 @@
 -- What an instruction carries on to the next point: the join of its outcomes that go there. (own)
-use Rattle.std.specs.Prelude.{◌==◌, ◌+◌, ◌++◌, ℕ, List, [], ◌∷◌, Option, Some, None, if◌then◌else◌}
+use Rattle.std.specs.Prelude.{◌==◌, ◌+◌, ◌++◌, ℕ, List, [], ◌∷◌, Option, Some, None, option_map, if◌then◌else◌}
 use Rattle.rights.specs.Values.{Name}
 use Rattle.certificate.specs.Bounds.{Bound, Certificate}
 use Rattle.certificate.specs.Joins.{bound_join}
+use Rattle.certificate.specs.Told.{told_bound}
 use Rattle.instruction_set.specs.Programs.{Instruction}
 use Rattle.task.specs.Plans.{Plan}
 use Rattle.rules.specs.Outcomes.{Outcome, successes_in, error_outcomes}
@@ -24,6 +25,7 @@ joined_at point before (o ∷ outs) = joined_at point (joined_with point before 
 abbrev pub outcomes : Plan → Certificate → Name → ℕ → Bound → Instruction → List Outcome
 outcomes plan certificate name point b i = successes_in plan certificate name point b i ++ error_outcomes b i
 
--- nothing, where no outcome goes to the next point
+-- Nothing, where no outcome goes to the next point; and else as the certificate would say it.
 abbrev pub carried_on : Plan → Certificate → Name → ℕ → Bound → Instruction → Option Bound
-carried_on plan certificate name point b i = joined_at (point + 1) None (outcomes plan certificate name point b i)
+carried_on plan certificate name point b i =
+    option_map (told_bound certificate.version) (joined_at (point + 1) None (outcomes plan certificate name point b i))

@@ -1,9 +1,10 @@
 -- What the rules ask of a call as a whole, whatever slots it goes through. (own; that global name spaces can't be reached in
 -- capability mode is of capsicum(4) and cap_enter(2))
 use Rattle.std.specs.Prelude.{◌&&◌, not, ℕ, Bool, true, false, Option, Some, None, is_some}
+use Rattle.rights.specs.Uses.{reaches_globally}
 use Rattle.certificate.specs.Bounds.{Bound}
 use Rattle.instruction_set.specs.Programs.{Operand, Syscall, Open, Openat, Read, Write, Sendfd, Recvfd, Lseek, Ftruncate, Fsync, Fstat, Fcntl_getfl, Fcntl_setfl, Fstatat, Stat, Mkdirat}
-use Rattle.instruction_set.specs.Programs.{Mkdir, Unlinkat, Unlink, Renameat, Dup, Close, Cap_rights_limit, Cap_fcntls_limit, Cap_enter, Cap_getmode, Socketpair, Fork}
+use Rattle.instruction_set.specs.Programs.{Mkdir, Unlinkat, Unlink, Renameat, Dup, Close, Cap_rights_limit, Cap_fcntls_limit, Cap_enter, Cap_getmode, Socketpair, Fork, Use as Call_use}
 use Rattle.rules.specs.Slots.{may_be_on, operand_interval, is_single, free_numbers}
 
 pub record Demands : Type 0 where
@@ -44,6 +45,7 @@ demands Cap_enter = record no_demand { never_fails = true }
 demands Cap_getmode = record no_demand { never_fails = true }
 demands Socketpair = record no_demand { takes = 2 }
 demands Fork = no_demand
+demands (Call_use x right) = record no_demand { is_global = reaches_globally right }
 
 -- Rule 4: an operand of a call that changes its slot is a single number.
 abbrev pub single_operand : Bound → Option Operand → Bool

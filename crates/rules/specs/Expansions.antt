@@ -1,11 +1,11 @@
--- What a certificate says of the points that it gives no bound: in versions 2 and 3 bounds are carried along a program, from each
+-- What a certificate says of the points that it gives no bound: in versions 2 to 4 bounds are carried along a program, from each
 -- point to the next, up to where ways meet. (own)
 use Rattle.std.specs.Prelude.{◌≡◌, ◌==◌, ◌&&◌, ◌||◌, ◌++◌, not, ℕ, zero, suc, Bool, true, false, nat_lt, List, [], ◌∷◌, length, Option, Some, None, if◌then◌else◌}
 use Rattle.std.specs.List.{flat_map, list_any, slice_get}
 use Rattle.std.specs.Str.{bytes_eq}
 use Rattle.rights.specs.Values.{Name}
 use Rattle.rights.specs.Limits.{most_instructions}
-use Rattle.certificate.specs.Bounds.{Bound, PointBound, Version, One, Two, Three, Certificate, bound_at}
+use Rattle.certificate.specs.Bounds.{Bound, PointBound, Version, One, Two, Three, Four, Certificate, bound_at}
 use Rattle.certificate.specs.Growth.{IsCertificate}
 use Rattle.certificate.specs.Growths.{IsGrown}
 use Rattle.instruction_set.specs.Programs.{Instruction, Set, Mov, Add, In, Jmp, Jeq, Jlt, Halt, Invoke}
@@ -32,11 +32,12 @@ names_point point i = list_any (λ (target : ℕ). target == point) (targets i)
 abbrev pub is_named : List Instruction → ℕ → Bool
 is_named code point = (point == 0) || list_any (names_point point) code
 
--- In versions 2 and 3 bounds may be carried to the other points of a program.
+-- In versions 2 to 4 bounds may be carried to the other points of a program.
 abbrev pub may_carry : Version → List Instruction → ℕ → Bool
 may_carry One code point = false
 may_carry Two code point = nat_lt point (length code) && not (is_named code point)
 may_carry Three code point = nat_lt point (length code) && not (is_named code point)
+may_carry Four code point = nat_lt point (length code) && not (is_named code point)
 
 -- the code of the program of a name; where a task has none, there is the empty list
 unfoldable pub code_named : List NamedProgram → Name → List Instruction
@@ -104,16 +105,18 @@ abbrev pub expanded_points : Plan → Certificate → List PointBound
 expanded_points plan c = flat_map (λ name. points_along plan c name None 0 most_instructions) (programs_given c.points)
 
 -- THE EXPANSION: the certificate in which each carried bound is written. One of version 1 is its own; that of one of version 2,
--- which has no authorities, is of version 1; and that of one of version 3 is of version 3.
+-- which has no authorities, is of version 1; and those of versions 3 and 4 are of their own.
 abbrev pub expanded_version : Version → Version
 expanded_version One = One
 expanded_version Two = One
 expanded_version Three = Three
+expanded_version Four = Four
 
 abbrev pub expanded : Version → Plan → Certificate → Certificate
 expanded One plan c = c
 expanded Two plan c = record c { version = One; points = expanded_points plan c }
 expanded Three plan c = record c { points = expanded_points plan c }
+expanded Four plan c = record c { points = expanded_points plan c }
 
 abbrev pub expansion : Plan → Certificate → Certificate
 expansion plan c = expanded c.version plan c

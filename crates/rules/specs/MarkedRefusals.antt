@@ -1,14 +1,14 @@
 -- What the rules on marked programs refuse, and what they let through: a probe for each. (own)
 use Rattle.std.specs.Prelude.{◌≡◌, ◌++◌, ◌+◌, ℕ, Bool, true, false, List, [], ◌∷◌, codes, Option, Some, None}
 use Rattle.rights.specs.Values.{Place, RightSet}
-use Rattle.rights.specs.Sets.{all_commands, lookup_right, read_right, write_right, unlinkat_right, renameat_source_right, renameat_target_right}
+use Rattle.rights.specs.Sets.{all_commands, further_right, lookup_right, read_right, write_right, unlinkat_right, renameat_source_right, renameat_target_right}
 use Rattle.rights.specs.Classes.{Initial}
 use Rattle.rights.specs.Operations.{Look, Read as Reads, Create as Creates, Remove as Removes}
 use Rattle.file_tree.specs.Nodes.{Dir}
 use Rattle.instruction_set.specs.Programs.{Number, Cap_enter, Dup, Instruction, Halt, Invoke}
 use Rattle.kernel.specs.Answers.{Event}
 use Rattle.kernel.specs.Hostile.{Own}
-use Rattle.certificate.specs.Bounds.{Off, On, Either, Target, In_grant, Any_node, Held, Slot, Bound, ChannelBound, Ceiling, End, Authority, Certificate, Three}
+use Rattle.certificate.specs.Bounds.{Off, On, Either, In_grant, Held, Bound, ChannelBound, Ceiling, End, Authority, Certificate, Three}
 use Rattle.certificate.specs.Describes.{Node_at, End_of, Own_end}
 use Rattle.certificate.specs.Bounds as bounds
 use Rattle.task.specs.Begins.{first_world}
@@ -40,6 +40,7 @@ mark_plan p i = record {
   programs =
       unmarked (codes "main") (Halt ∷ []) ∷ record (unmarked (codes "probe") (i ∷ Halt ∷ [])) { marked = true } ∷ [];
   starts = record { program = 1; mode = p.in_mode; descriptors = p.descriptors } ∷ [];
+  wide = false;
 }
 
 abbrev pub probed_marked : MarkedProbe → Instruction → Option (ℕ × ℕ × ℕ)
@@ -157,8 +158,9 @@ abbrev pub first_event : Event
 first_event = record { process = 0; input = 0; refuse = false }
 
 pub record WithinRefuses : Type 0 where
-  pub above_the_ceiling : (grants : List Grant) (place : Place) → MayHave grants nothing_allowed (codes "main") (Node_at place) write_right → ⊥
-  pub in_no_grant : (a : Authority) (place : Place) → MayHave [] a (codes "main") (Node_at place) 0 → ⊥
-  pub unlisted_end : MayHave [] nothing_allowed (codes "main") (End_of (Initial 0) 0) 0 → ⊥
-  pub end_of_another : MayHave [] nothing_allowed (codes "main") (Own_end (codes "child") 0) 0 → ⊥
+  pub above_the_ceiling : (wide : Bool) (grants : List Grant) (place : Place) → MayHave wide grants nothing_allowed (codes "main") (Node_at place) write_right → ⊥
+  pub further_above_it : (grants : List Grant) (place : Place) → MayHave true grants nothing_allowed (codes "main") (Node_at place) (further_right 7) → ⊥
+  pub in_no_grant : (wide : Bool) (a : Authority) (place : Place) → MayHave wide [] a (codes "main") (Node_at place) 0 → ⊥
+  pub unlisted_end : (wide : Bool) → MayHave wide [] nothing_allowed (codes "main") (End_of (Initial 0) 0) 0 → ⊥
+  pub end_of_another : (wide : Bool) → MayHave wide [] nothing_allowed (codes "main") (Own_end (codes "child") 0) 0 → ⊥
   pub carried_in : StayWithin carrying no_authority (first_world carrying) ((first_event, Own) ∷ []) → ⊥

@@ -1,6 +1,6 @@
 -- What a call needs of each slot that an operand of it may name, whatever the bound. (own; after capsicum(4), rights(4),
 -- cap_rights_limit(2) and cap_fcntls_limit(2))
-use Rattle.std.specs.Prelude.{◌++◌, ℕ, Bool, true, false, List, [], ◌∷◌, Option, Some, None}
+use Rattle.std.specs.Prelude.{◌++◌, Bool, true, false, List, [], ◌∷◌, Option, Some, None, is_some}
 use Rattle.rights.specs.Values.{RightSet, CommandSet}
 use Rattle.rights.specs.Sets.{getfl_command, setfl_command}
 use Rattle.rights.specs.Calls as calls
@@ -8,8 +8,9 @@ use Rattle.rights.specs.Opens.{OpenRequest, no_request}
 use Rattle.rights.specs.Needs.{Second, needs_of}
 use Rattle.rights.specs.Operations.{Operation}
 use Rattle.rights.specs.Operations as operations
+use Rattle.rights.specs.Uses.{operation_of_use}
 use Rattle.instruction_set.specs.Programs.{Operand, Syscall, Open, Openat, Read, Write, Sendfd, Recvfd, Lseek, Ftruncate, Fsync, Fstat, Fcntl_getfl, Fcntl_setfl, Fstatat, Stat, Mkdirat}
-use Rattle.instruction_set.specs.Programs.{Mkdir, Unlinkat, Unlink, Renameat, Dup, Close, Cap_rights_limit, Cap_fcntls_limit, Cap_enter, Cap_getmode, Socketpair, Fork}
+use Rattle.instruction_set.specs.Programs.{Mkdir, Unlinkat, Unlink, Renameat, Dup, Close, Cap_rights_limit, Cap_fcntls_limit, Cap_enter, Cap_getmode, Socketpair, Fork, Use as Call_use}
 use Rattle.instruction_set.specs.CallNeeds.{first_rights}
 
 -- the slot of an operand is sent, or something is received
@@ -21,6 +22,7 @@ pub data Passed : Type 0 where
 pub record Need : Type 0 where
   pub rights : RightSet  -- the rights that it needs
   pub commands : CommandSet  -- the fcntl commands that it needs
+  pub further : RightSet  -- the further right that it needs
   pub kept_rights : RightSet  -- what a limit keeps, which has to be there
   pub kept_commands : CommandSet
   pub works : Bool  -- it works on what the slot is of, so in capability mode that has to be known
@@ -52,6 +54,7 @@ abbrev pub no_need : Need
 no_need = record {
   rights = 0;
   commands = 0;
+  further = 0;
   kept_rights = 0;
   kept_commands = 0;
   works = false;
@@ -76,6 +79,18 @@ working call operations = record (needing call) { works = true; operations = ope
 
 abbrev pub naming : Syscall → List Operation → Need
 naming call operations = record (working call operations) { changes_names = true }
+
+-- a call that needs a further right works on a slot if it does something to its node
+abbrev pub listed_operation : Option Operation → List Operation
+listed_operation None = []
+listed_operation (Some operation) = operation ∷ []
+
+abbrev pub using : Syscall → RightSet → Need
+using call right = record (needing call) {
+  further = right;
+  works = is_some (operation_of_use right);
+  operations = listed_operation (operation_of_use right);
+}
 
 abbrev pub moving_to : Need
 moving_to = record no_need {
@@ -121,3 +136,4 @@ needs Cap_enter = through_none
 needs Cap_getmode = through_none
 needs Socketpair = through_none
 needs Fork = through_none
+needs (Call_use x right) = through_one x (using (Call_use x right) right)

@@ -7,12 +7,13 @@ use Rattle.rights.specs.Values.{Name, PathText, SideNumber, RightSet, CommandSet
 use Rattle.rights.specs.Limits.{most_bytes, most_processes}
 use Rattle.rights.specs.Sets.{all_rights, all_commands}
 use Rattle.rights.specs.Classes.{Made_at}
+use Rattle.rights.specs.Uses.{acts_beneath}
 use Rattle.file_tree.specs.Places.{place_text}
 use Rattle.rights.specs.Sides.{other_side}
 use Rattle.certificate.specs.Bounds.{ModeBound, Off, On, Either, Interval, interval, with_interval, Target, In_grant, Any_node, Socket, Unknown, Held, Closed, with_slot, Bound, Certificate}
 use Rattle.certificate.specs.Bounds as bounds
 use Rattle.instruction_set.specs.Programs.{Operand, Syscall, Open, Openat, Read, Write, Sendfd, Recvfd, Lseek, Ftruncate, Fsync, Fstat, Fcntl_getfl, Fcntl_setfl, Fstatat, Stat, Mkdirat}
-use Rattle.instruction_set.specs.Programs.{Mkdir, Unlinkat, Unlink, Renameat, Dup, Close, Cap_rights_limit, Cap_fcntls_limit, Cap_enter, Cap_getmode, Socketpair, Fork, Instruction, Set}
+use Rattle.instruction_set.specs.Programs.{Mkdir, Unlinkat, Unlink, Renameat, Dup, Close, Cap_rights_limit, Cap_fcntls_limit, Cap_enter, Cap_getmode, Socketpair, Fork, Use as Call_use, Instruction, Set}
 use Rattle.instruction_set.specs.Programs.{Mov, Add, In, Jmp, Jeq, Jlt, Halt, Invoke}
 use Rattle.task.specs.Plans.{Grant, Plan, is_marked}
 use Rattle.rules.specs.Intervals.{only, sums, equal_part, other_part, lower_part, upper_part}
@@ -201,6 +202,7 @@ module _ (grants : List Grant) (certificate : Certificate) (name : List ℕ) (po
   successes_of Cap_enter = leads_on (record b { mode = On }) (only 0)
   successes_of Cap_getmode = leads_on b (mode_interval b.mode)
   successes_of Socketpair = at_pair (free_numbers 2 b) (λ first second. leads_on (with_pair first second) (only first))
+  successes_of (Call_use x right) = if acts_beneath right then gives_at_node x (leads_on b (only 0)) else gives_through x (only 0)
   successes_of Fork = leads_on b (only 0) ++ leads_on b (from_to 1 (most_processes - 1))
 
   -- All outcomes but those of errors. `halt` has none.

@@ -4,7 +4,7 @@ use Rattle.rights.specs.Limits.{most_descriptors}
 use Rattle.rights.specs.Classes.{Initial}
 use Rattle.rights.specs.Operations.{Look, Read as Reads, Create as Creates}
 use Rattle.instruction_set.specs.Programs.{Syscall, Instruction, Halt, Invoke}
-use Rattle.certificate.specs.Bounds.{ModeBound, Off, Either, Target, In_grant, Any_node, Socket, Held, Slot, Closed, Maybe, Bound, PointBound, ChannelBound, One, Certificate}
+use Rattle.certificate.specs.Bounds.{ModeBound, Off, Either, In_grant, Any_node, Socket, Held, Slot, Closed, Maybe, Bound, PointBound, ChannelBound, One, Certificate}
 use Rattle.certificate.specs.Bounds as bounds
 use Rattle.certificate.specs.Growth.{copies, open_bound}
 use Rattle.task.specs.Plans.{Plan, unmarked}
@@ -63,6 +63,7 @@ probed_plan started i = record {
   programs =
       unmarked (codes "main") (Halt ∷ []) ∷ unmarked (codes "probe") (i ∷ Halt ∷ []) ∷ [];
   starts = record { program = started; mode = false; descriptors = [] } ∷ [];
+  wide = false;
 }
 
 abbrev pub block : List ℕ → ℕ → Bound → PointBound

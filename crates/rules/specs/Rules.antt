@@ -83,7 +83,7 @@ abbrev pub keeps_rights : Use → Bool
 keeps_rights u = is_within u.need.rights u.slot.held.least
 
 abbrev pub keeps_commands : Use → Bool
-keeps_commands u = is_within u.need.commands u.slot.held.least_fcntls
+keeps_commands u = is_within u.need.commands u.slot.held.least_fcntls && is_within u.need.further u.slot.held.least
 
 abbrev pub keeps_limit : Use → Bool
 keeps_limit u = is_within u.need.kept_rights u.slot.held.least && is_within u.need.kept_commands u.slot.held.least_fcntls
@@ -129,11 +129,11 @@ moves_within u = list_all (λ (t : OpenSlot). same_grant u.slot.held.target t.he
 
 -- ## Rules on marked programs
 -- Rule 18: what a process may hold where it enters the mode, or holds where it starts in it, is within the program's authority.
-abbrev pub enters_within : Authority → Instruction → Bound → Bool
-enters_within a i b = not (enters_mode i) || may_have_slots a b
+abbrev pub enters_within : Bool → Authority → Instruction → Bound → Bool
+enters_within wide a i b = not (enters_mode i) || may_have_slots wide a b
 
 abbrev pub starts_in_authority : Plan → Authority → ℕ → ℕ → Bool
-starts_in_authority plan a program point = not (point == 0) || may_start_all plan a program plan.starts
+starts_in_authority plan a program point = not (point == 0) || may_start_all plan.wide plan a program plan.starts
 
 -- Rules 19 to 22 are asked at point 0, whether or not it has a bound, and of programs that nobody starts too.
 abbrev pub is_asked_first : Plan → ℕ → ℕ → Bool
@@ -143,9 +143,9 @@ unfoldable pub authority_tests : Plan → Certificate → ℕ → ℕ → List T
 authority_tests plan certificate program point =
     let a = authority_at certificate (program_name plan program) in
     let asked = is_asked_first plan program point in
-    record { rule = 19; kept = not asked || keeps_ceilings plan.grants a }
+    record { rule = 19; kept = not asked || keeps_ceilings plan.wide plan.grants a }
     ∷ record { rule = 20; kept = not asked || keeps_moves a }
-    ∷ record { rule = 21; kept = not asked || keeps_received certificate a }
+    ∷ record { rule = 21; kept = not asked || keeps_received plan.wide certificate a }
     ∷ record { rule = 22; kept = not asked || keeps_sent certificate a }
     ∷ []
 
@@ -155,7 +155,7 @@ mark_tests plan certificate program point i b =
     let a = authority_at certificate (program_name plan program) in
     let marked = marked_at plan program in
     record { rule = 17; kept = not marked || not (may_be_on b.mode) }
-    ∷ record { rule = 18; kept = not marked || (enters_within a i b && starts_in_authority plan a program point) }
+    ∷ record { rule = 18; kept = not marked || (enters_within plan.wide a i b && starts_in_authority plan a program point) }
     ∷ authority_tests plan certificate program point
 
 -- ## The tests

@@ -7,7 +7,7 @@ use Rattle.kernel.specs.Hostile.{Act}
 use Rattle.task.specs.Begins.{first_world}
 use Rattle.task.specs.Plans.{NamedProgram, Plan, program_name, none_marked}
 use Rattle.task.specs.Limits.{is_plan}
-use Rattle.task.specs.Confined.{IsConfined}
+use Rattle.task.specs.Confined.{AreSpoken, IsConfined}
 use Rattle.task.specs.Sandboxed.{IsSandboxed}
 use Rattle.rules.specs.Points.{instruction_at}
 use Rattle.rules.specs.Rules.{tests, tests_without, least_broken}
@@ -70,7 +70,7 @@ IsConfining = (plan : Plan) (certificate : Certificate) → is_plan plan ≡ tru
 abbrev pub IsHeldWithin : Type 0
 IsHeldWithin =
     (plan : Plan) (certificate : Certificate) → is_plan plan ≡ true → MeetsRules plan certificate → (events : List (Event × Act))
-    → StayWithin plan certificate (first_world plan) events
+    → AreSpoken plan.wide events → StayWithin plan certificate (first_world plan) events
 
 -- Where a certificate meets the rules and no program is marked, every run of the task is sandboxed: whatever list of events,
 -- inputs, schedules and refusals, and whatever fresh numbers are chosen at each step.

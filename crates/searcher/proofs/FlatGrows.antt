@@ -19,7 +19,7 @@ use Rattle.texts.specs.Names.{is_name}
 use Rattle.instruction_set.specs.Programs.{Instruction, ends_well, is_instruction, is_program}
 use Rattle.task.specs.Plans.{FirstDescriptor, FirstObject, On_node, On_end, Grant, NamedProgram, Start, Plan, code_in}
 use Rattle.task.specs.Limits.{all_apart, is_tree, are_grants, is_program_named, are_named_apart, is_start, are_descriptors, are_programs, are_starts, is_plan}
-use Rattle.certificate.specs.Bounds.{ModeBound, Target, In_grant, Slot, Open, Bound, PointBound, Two, Certificate}
+use Rattle.certificate.specs.Bounds.{ModeBound, Target, In_grant, Slot, Open, Bound, PointBound, Version, Held, Certificate, tells_further}
 use Rattle.certificate.specs.Growth.{above_blocks, copies, distinct, distinct_behind, name_order, empty, open_bound, programs_of_block, programs_of_slot, programs_of_target}
 use Rattle.certificate.proofs.Distinct.{behind-append}
 use Rattle.certificate.proofs.Last.{above_blocks-last, above_blocks-none}
@@ -27,12 +27,14 @@ use Rattle.certificate.specs.Growths.{grown_by, then_grown}
 use Rattle.certificate.specs.GrowthViews.{Grows}
 use Rattle.certificate.specs.declared.lines.Refusal.{Refusal}
 use Rattle.certificate.specs.declared.lines.Refusal.TheVariants.{Limit, Order, Memory}
+use Rattle.certificate.specs.Told.{untold_held}
 use Rattle.rules.specs.Outcomes.{enters_mode}
 use Rattle.searcher.specs.Flat.{code_of_start, first_held, first_target, plain_flat, flat_bound, flat_points, flat_points_of, grant_target, have_own, flat_mode, name_of_start}
 use Rattle.searcher.specs.Flat.{nearer, next_behind, points_behind, points_from, with_first, with_next}
 use Rattle.certificate.proofs.Growths.{by_append}
+use Rattle.searcher.specs.Versions.{flat_version}
 use Rattle.searcher.proofs.Taken.{AllPlain, flat_of, listed, names, of_points, one_more, plain_closed, points_grown, room_for, run_names}
-use Rattle.searcher.proofs.Valid.{programs_named, starts_valid}
+use Rattle.searcher.proofs.Valid.{parts_valid, programs_named, starts_valid}
 
 -- FIRST DESCRIPTORS name no program.
 if_plain : (b : Bool) (here there : Target) → programs_of_target here ≡ [] → programs_of_target there ≡ [] → programs_of_target (if b then here else there) ≡ []
@@ -48,6 +50,14 @@ target_plain : (plan : Plan) (object : FirstObject) → programs_of_target (firs
 target_plain plan (On_node n access) = grant_plain plan.grants (node plan.nodes n).place
 target_plain plan (On_end pair side) = refl
 
+-- nor do they as a version tells them
+if_same : (b : Bool) (h : Held) → (if b then h else untold_held h).target ≡ h.target
+if_same true h = refl
+if_same false h = refl
+
+held_plain : (plan : Plan) (d : FirstDescriptor) → programs_of_target (first_held plan d).target ≡ []
+held_plain plan d = ap programs_of_target (if_same (tells_further (flat_version plan)) _) ∙ target_plain plan d.object
+
 set_plain : (slots : List Slot) (n : ℕ) (s : Slot) → AllPlain slots → programs_of_slot s ≡ [] → AllPlain (slice_set slots n s)
 unfolding AllPlain
 set_plain [] n s plain is = tt
@@ -58,7 +68,7 @@ module _ (plan : Plan) (b : Bound) where
   first_plain : (descriptors : List FirstDescriptor) → AllPlain b.slots → AllPlain (with_first plan b descriptors).slots
   first_plain [] plain = plain
   first_plain (d ∷ descriptors) plain =
-      set_plain (with_first plan b descriptors).slots d.number (Open (first_held plan d)) (first_plain descriptors plain) (target_plain plan d.object)
+      set_plain (with_first plan b descriptors).slots d.number (Open (first_held plan d)) (first_plain descriptors plain) (held_plain plan d)
 
   first_long : (descriptors : List FirstDescriptor) → length (with_first plan b descriptors).slots ≡ length b.slots
   first_long [] = refl
@@ -143,10 +153,10 @@ some_above name b points [] ends = absurd cc
 some_above name b points (i ∷ code) ends = run_above name b points 0 i code
 
 -- TURN BY TURN: more points that are taken behind others
-IsGrown : List PointBound → List PointBound → Type 0
-IsGrown points more = grown_by more (of_points points) ≡ Some (of_points (points ++ more))
+IsGrown : Version → List PointBound → List PointBound → Type 0
+IsGrown v points more = grown_by more (of_points v points) ≡ Some (of_points v (points ++ more))
 
-module _ (plan : Plan) (valid : is_plan plan ≡ true) where
+module _ (v : Version) (plan : Plan) (valid : is_plan plan ≡ true) where
   start_form : (s : Start) → flat_bound plan s ≡ flat_of (flat_mode s.mode (list_any enters_mode (code_of_start plan s))) (flat_bound plan s).slots
   start_form s = first_form plan (open_bound (flat_mode s.mode (list_any enters_mode (code_of_start plan s)))) s.descriptors
 
@@ -165,13 +175,13 @@ module _ (plan : Plan) (valid : is_plan plan ≡ true) where
     plain = first_plain plan (open_bound mode) s.descriptors (plain_closed [] 16 tt)
 
     start_grown : (points : List PointBound) → length (listed points) + 1 ≤ 8 → above_blocks points (name_of_start plan s) 0 ≡ true
-        → IsGrown points (flat_points_of plan s)
+        → IsGrown v points (flat_points_of plan s)
     unfolding IsGrown
     start_grown points few above =
         let name = name_of_start plan s in
-        ap (λ b. grown_by (points_from name b 0 (code_of_start plan s)) (of_points points)) (start_form s)
-        ∙ points_grown name mode slots long plain points 0 (code_of_start plan s) (room_for points name few) above
-        ∙ ap (λ b. Some (of_points (points ++ points_from name b 0 (code_of_start plan s)))) (sym (start_form s))
+        ap (λ b. grown_by (points_from name b 0 (code_of_start plan s)) (of_points v points)) (start_form s)
+        ∙ points_grown name mode slots long plain v points 0 (code_of_start plan s) (room_for points name few) above
+        ∙ ap (λ b. Some (of_points v (points ++ points_from name b 0 (code_of_start plan s)))) (sym (start_form s))
 
     start_listed : (points : List PointBound) → length (listed (points ++ flat_points_of plan s)) ≤ length (listed points) + 1
     start_listed points =
@@ -189,19 +199,19 @@ module _ (plan : Plan) (valid : is_plan plan ≡ true) where
         let within = ltb-true s.program (length plan.programs) (both_left (nat_lt s.program (length plan.programs)) (are_descriptors plan.nodes s.descriptors) is) in
         some_above (name_of_start plan s) (flat_bound plan s) points (code_of_start plan s) (code_there plan.programs s.program within (programs_named plan valid))
 
-  none_grown : (points : List PointBound) → IsGrown points []
+  none_grown : (points : List PointBound) → IsGrown v points []
   unfolding grown_by IsGrown
-  none_grown points = ap (λ list. Some (of_points list)) (sym (append-nil points))
+  none_grown points = ap (λ list. Some (of_points v list)) (sym (append-nil points))
 
-  both_grown : (points own rest : List PointBound) → IsGrown points own → IsGrown (points ++ own) rest → IsGrown points (own ++ rest)
+  both_grown : (points own rest : List PointBound) → IsGrown v points own → IsGrown v (points ++ own) rest → IsGrown v points (own ++ rest)
   unfolding IsGrown
   both_grown points own rest first second =
-      by_append own rest (of_points points) ∙ ap (then_grown (grown_by rest)) first ∙ second ∙ ap (λ list. Some (of_points list)) (append_assoc points own rest)
+      by_append own rest (of_points v points) ∙ ap (then_grown (grown_by rest)) first ∙ second ∙ ap (λ list. Some (of_points v list)) (append_assoc points own rest)
 
   -- with the next process, or with none
   next_grown : (turns : List Start) (name : List ℕ) (points : List PointBound) → Above points name → length (listed points) + suc (length turns) ≤ 8
-      → ((s : Start) (more : List PointBound) → Above more (name_of_start plan s) → length (listed more) + length turns ≤ 8 → IsGrown more (points_behind plan turns (name_of_start plan s)))
-      → (o : Option Start) → next_behind plan name plan.starts ≡ o → IsGrown points (with_next plan (points_behind plan turns) o)
+      → ((s : Start) (more : List PointBound) → Above more (name_of_start plan s) → length (listed more) + length turns ≤ 8 → IsGrown v more (points_behind plan turns (name_of_start plan s)))
+      → (o : Option Start) → next_behind plan name plan.starts ≡ o → IsGrown v points (with_next plan (points_behind plan turns) o)
   next_grown turns name points above few rest None same = none_grown points
   next_grown turns name points above few rest (Some s) same =
       let is = is_next plan name plan.starts s (starts_valid plan valid) same in
@@ -212,7 +222,7 @@ module _ (plan : Plan) (valid : is_plan plan ≡ true) where
       (rest s (points ++ own) (start_above s is.1 points) (omega (arith, few, more)))
 
   turns_grown : (turns : List Start) (name : List ℕ) (points : List PointBound) → Above points name → length (listed points) + length turns ≤ 8
-      → IsGrown points (points_behind plan turns name)
+      → IsGrown v points (points_behind plan turns name)
   unfolding points_behind
   turns_grown [] name points above few = none_grown points
   turns_grown (t ∷ turns) name points above few =
@@ -254,7 +264,7 @@ few_programs plan valid =
     let before = is_tree plan.nodes && are_grants plan.nodes plan.grants in
     let programs = are_programs plan.programs in
     let are : programs ≡ true =
-    both_right before programs (both_left (before && programs) (are_starts plan.nodes (length plan.programs) plan.starts) valid) in
+    both_right before programs (both_left (before && programs) (are_starts plan.nodes (length plan.programs) plan.starts) (parts_valid plan valid)) in
     let few = nat_le (length plan.programs) most_programs in
     let each = list_all is_program_named plan.programs in
     leb-true (length plan.programs) 8 (both_left few each (both_left (few && each) (all_apart are_named_apart plan.programs) are))
@@ -268,24 +278,24 @@ few_starts plan valid own =
     omega (arith, few, most, same)
 
 pub flat_grows : (plan : Plan) → is_plan plan ≡ true → have_own plan.starts ≡ true
-    → grown_by (flat_points plan) (empty Two) ≡ Some (of_points (flat_points plan))
+    → grown_by (flat_points plan) (empty (flat_version plan)) ≡ Some (of_points (flat_version plan) (flat_points plan))
 unfolding distinct_behind IsGrown
 flat_grows plan valid own =
     let few = few_starts plan valid own in
-    turns_grown plan valid plan.starts [] [] (λ q less. above_blocks-none q 0) (omega (arith, few))
+    turns_grown (flat_version plan) plan valid plan.starts [] [] (λ q less. above_blocks-none q 0) (omega (arith, few))
 
 -- what the code's growing comes to, then
-pub flat_taken : (plan : Plan) (starts others : List Start) (c : Certificate) (own : Bool) → starts ≡ plan.starts → others ≡ plan.starts → c ≡ empty Two
-    → own ≡ have_own starts → own ≡ true → is_plan plan ≡ true → grown_by (points_behind plan others []) c ≡ Some (of_points (flat_points plan))
+pub flat_taken : (plan : Plan) (starts others : List Start) (c : Certificate) (own : Bool) → starts ≡ plan.starts → others ≡ plan.starts → c ≡ empty (flat_version plan)
+    → own ≡ have_own starts → own ≡ true → is_plan plan ≡ true → grown_by (points_behind plan others []) c ≡ Some (of_points (flat_version plan) (flat_points plan))
 flat_taken plan starts others c own same again new is owned valid =
     (λ k. grown_by (points_behind plan (again k) []) (new k))
     ∙ flat_grows plan valid (ap have_own (sym same) ∙ sym is ∙ owned)
 
 pub is_flat : (plan : Plan) (starts : List Start) (own : Bool) → starts ≡ plan.starts → own ≡ have_own starts → own ≡ true
-    → plain_flat plan ≡ Some (of_points (flat_points plan))
+    → plain_flat plan ≡ Some (of_points (flat_version plan) (flat_points plan))
 unfolding plain_flat
 is_flat plan starts own same is owned =
-    ap (λ b. if b then Some (of_points (flat_points plan)) else None) (ap have_own (sym same) ∙ sym is ∙ owned)
+    ap (λ b. if b then Some (of_points (flat_version plan) (flat_points plan)) else None) (ap have_own (sym same) ∙ sym is ∙ owned)
 
 pub not_refused : (refusal : Refusal) (new c : Certificate) (answer : Option Certificate) → Grows (Err refusal) new answer → answer ≡ Some c
     → (refusal ≡ Limit) ⊎ (refusal ≡ Order) → ⊥

@@ -4,8 +4,9 @@ pub mod Valid
 pub mod Taken
 pub mod FlatGrows
 pub mod KnownLimits
-pub mod Versions
+pub mod VersionLaws
 pub mod Authorities
 pub mod Shortened
 pub mod Short
 pub mod Widened
+pub mod ToldFlat

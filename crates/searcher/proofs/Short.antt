@@ -3,7 +3,7 @@ use Rattle.std.proofs.Common.{◌≡◌, ◌&&◌, ◌++◌, ◌+◌, ℕ, Bool,
 use Rattle.std.specs.Prelude.{OnOk, Some, Result, Ok, Err, if◌then◌else◌}
 use Rattle.std.specs.List.{filter, list_all}
 use Rattle.std.proofs.lemmas.List.Folds.{list_all-append}
-use Rattle.certificate.specs.Bounds.{Interval, Slot, Bound, PointBound, ChannelBound, Two, Certificate}
+use Rattle.certificate.specs.Bounds.{Interval, Slot, Bound, PointBound, ChannelBound, Certificate}
 use Rattle.certificate.specs.Growth.{Refused, on_last, taken, with_line}
 use Rattle.certificate.specs.Growths.{grown, grown_behind}
 use Rattle.certificate.specs.GrowthViews.{Grows}
@@ -14,6 +14,7 @@ use Rattle.certificate.proofs.Growing.{and_left, and_right, both_true, taken-bac
 use Rattle.rules.specs.Expansions.{code_named, is_named}
 use Rattle.task.specs.Plans.{Plan}
 use Rattle.searcher.specs.Shortening.{IsShort, is_at_named, short_form}
+use Rattle.searcher.specs.Versions.{flat_version}
 
 -- a line that begins no block but a named one, and no authority
 abbrev is_calm : Plan → Line → Bool
@@ -39,12 +40,12 @@ named_more plan points b all own =
 
 short_line : (plan : Plan) (line : Line) (c : Certificate) → is_calm plan line ≡ true → IsShort plan c → IsShort plan (with_line c line)
 short_line plan (Begins_block program point mode) c calm short =
-    record { two = short.two; named = named_more plan c.points _ short.named calm; none = short.none }
+    record { version = short.version; named = named_more plan c.points _ short.named calm; none = short.none }
 short_line plan (Bounds_register register interval) c calm short =
-    record { two = short.two; named = named_last plan _ c.points ∙ short.named; none = short.none }
+    record { version = short.version; named = named_last plan _ c.points ∙ short.named; none = short.none }
 short_line plan (Bounds_slot number slot) c calm short =
-    record { two = short.two; named = named_last plan _ c.points ∙ short.named; none = short.none }
-short_line plan (Bounds_channel channel) c calm short = record { two = short.two; named = short.named; none = short.none }
+    record { version = short.version; named = named_last plan _ c.points ∙ short.named; none = short.none }
+short_line plan (Bounds_channel channel) c calm short = record { version = short.version; named = short.named; none = short.none }
 short_line plan (Begins_authority program) c calm short = absurd cc
 short_line plan (Bounds_grant ceiling) c calm short = absurd cc
 short_line plan (Holds_end held) c calm short = absurd cc
@@ -125,6 +126,6 @@ kept_all keep (x ∷ xs) all = go (keep x) (and_left (keep x) (list_all keep xs)
 pub short_itself : (plan : Plan) (c : Certificate) → IsShort plan c → c ≡ short_form plan c
 unfolding short_form
 short_itself plan c short =
-    ap (λ v. record c { version = v }) short.two
-    ∙ ap (λ points. record { version = Two; points = points; channels = c.channels; authorities = c.authorities }) (sym (kept_all (is_at_named plan) c.points short.named))
-    ∙ ap (λ authorities. record { version = Two; points = filter (is_at_named plan) c.points; channels = c.channels; authorities = authorities }) short.none
+    ap (λ v. record c { version = v }) short.version
+    ∙ ap (λ points. record { version = flat_version plan; points = points; channels = c.channels; authorities = c.authorities }) (sym (kept_all (is_at_named plan) c.points short.named))
+    ∙ ap (λ authorities. record { version = flat_version plan; points = filter (is_at_named plan) c.points; channels = c.channels; authorities = authorities }) short.none

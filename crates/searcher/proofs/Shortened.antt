@@ -5,21 +5,25 @@ use Rattle.std.specs.List.{filter, flat_map, list_all, slice_index_or}
 use Rattle.std.proofs.Math.ListN.{drop_of_length-le}
 use Rattle.std.proofs.lemmas.List.{drop_more}
 use Rattle.std.proofs.lemmas.List.Folds.{list_all-map}
-use Rattle.certificate.specs.Bounds.{PointBound, ChannelBound, Version, Two, Certificate}
+use Rattle.certificate.specs.Bounds.{PointBound, ChannelBound, Version, Certificate}
 use Rattle.certificate.specs.Growth.{IsCertificate, Refused, empty, programs_named, taken}
 use Rattle.certificate.specs.Growths.{grown, grown_behind, grown_by, then_grown}
 use Rattle.certificate.specs.Lines.{Line, Bounds_channel, authority_lines, block_lines, lines_of, rest_lines}
 use Rattle.certificate.specs.Rising.{places_of, precedes, rises}
+use Rattle.certificate.specs.Told.{are_told_points, is_told_bound, told_point}
 use Rattle.certificate.specs.Views.{point_of, points_of}
 use Rattle.certificate.specs.declared.points.Point.{Point as PointCode}
 use Rattle.certificate.proofs.Fits.{is_fit_point}
 use Rattle.certificate.proofs.Growing.{and_left, and_right, both_true, taken-back}
-use Rattle.certificate.proofs.Growths.{by_append, grown_append}
+use Rattle.certificate.proofs.Growths.{grown_append}
 use Rattle.certificate.proofs.Makes.{Fits, beside, makes_itself}
+use Rattle.certificate.proofs.OwnTold.{own_told}
+use Rattle.certificate.proofs.ToldLaws.{told_points_stay}
 use Rattle.certificate.proofs.Whole.{fits_itself}
-use Rattle.checker.proofs.Along.{by_lines}
+use Rattle.checker.proofs.Along.{by_lines, told_append}
 use Rattle.task.specs.Plans.{Plan}
 use Rattle.searcher.specs.Shortening.{is_at_named, short_form}
+use Rattle.searcher.specs.Versions.{flat_version}
 
 -- WHAT IS LEFT of some points
 all_left : {A : Type 0} (test keep : A → Bool) (xs : List A) → list_all test xs ≡ true → list_all test (filter keep xs) ≡ true
@@ -96,21 +100,21 @@ short_fits plan c valid =
       rest = λ version. channels_alone version c (fits.rest version);
     }
 
-pub short_taken : (plan : Plan) (c start : Certificate) → IsCertificate c → start ≡ empty Two
+pub short_taken : (plan : Plan) (c start : Certificate) → IsCertificate c → start ≡ empty (flat_version plan)
     → grown (lines_of (short_form plan c)) start ≡ Some (short_form plan c)
 unfolding short_form
 short_taken plan c start valid begun =
     ap (grown (lines_of (short_form plan c))) begun ∙ makes_itself (programs_named c) (short_form plan c) (short_fits plan c valid)
 
--- of version 2,
-pub short_is_two : (plan : Plan) (c : Certificate) → (short_form plan c).version ≡ Two
+-- of the version of its task,
+pub short_is_versioned : (plan : Plan) (c : Certificate) → (short_form plan c).version ≡ flat_version plan
 unfolding short_form
-short_is_two plan c = refl
+short_is_versioned plan c = refl
 
 -- and has no shorter one.
 pub short_twice : (plan : Plan) (c : Certificate) → short_form plan (short_form plan c) ≡ short_form plan c
 unfolding short_form
-short_twice plan c = ap (λ points. record { version = Two; points = points; channels = c.channels; authorities = [] }) (left_twice (is_at_named plan) c.points)
+short_twice plan c = ap (λ points. record { version = flat_version plan; points = points; channels = c.channels; authorities = [] }) (left_twice (is_at_named plan) c.points)
 
 -- ITS LINES are those of its points, and then the channels.
 pub short_lines : (plan : Plan) (c d : Certificate)
@@ -122,6 +126,14 @@ short_lines plan c d =
     ∙ grown_append (flat_map block_lines points) (map Bounds_channel c.channels) d
     ∙ ap (then_grown (grown (map Bounds_channel c.channels))) (sym (by_lines points d))
 
+-- They are told as the certificate's version tells them.
+pub named_stay : (v : Version) (plan : Plan) (c : Certificate) (points : List PointBound) → v ≡ c.version → IsCertificate c → points ≡ c.points
+    → map (told_point v) (filter (is_at_named plan) points) ≡ filter (is_at_named plan) c.points
+named_stay v plan c points same valid are =
+    ap (λ points. map (told_point v) (filter (is_at_named plan) points)) are
+    ∙ told_points_stay v (filter (is_at_named plan) c.points)
+    (all_left (λ (p : PointBound). is_told_bound v p.bound) (is_at_named plan) c.points (ap (λ v. are_told_points v c.points) same ∙ (own_told c valid).points))
+
 -- One point after another is added, if it is named.
 point_then : (plan : Plan) (b : PointBound) (points : List PointBound)
     → filter (is_at_named plan) (b ∷ points) ≡ filter (is_at_named plan) (b ∷ []) ++ filter (is_at_named plan) points
@@ -132,17 +144,18 @@ point_then plan b points = go (is_at_named plan b)
     go true = refl
     go false = refl
 
-pub first_then : (plan : Plan) (points : List PointCode) (i : ℕ) (first : PointCode) (c : Certificate) → i < length points → first ≡ slice_index_or points i first
-    → grown_by (filter (is_at_named plan) (points_of (drop i points))) c
-    ≡ then_grown (grown_by (filter (is_at_named plan) (points_of (drop (i + 1) points)))) (grown_by (filter (is_at_named plan) (point_of first ∷ [])) c)
-first_then plan points i first c below is =
+pub first_then : (v : Version) (plan : Plan) (points : List PointCode) (i : ℕ) (first : PointCode) (c : Certificate) → i < length points → first ≡ slice_index_or points i first
+    → grown_by (map (told_point v) (filter (is_at_named plan) (points_of (drop i points)))) c
+    ≡ then_grown (grown_by (map (told_point v) (filter (is_at_named plan) (points_of (drop (i + 1) points)))))
+    (grown_by (map (told_point v) (filter (is_at_named plan) (point_of first ∷ []))) c)
+first_then v plan points i first c below is =
     let rest = points_of (drop (i + 1) points) in
-    ap (λ list. grown_by (filter (is_at_named plan) (points_of list)) c) (drop_more points i first below ∙ ap (λ p. p ∷ drop (i + 1) points) (sym is))
-    ∙ ap (λ list. grown_by list c) (point_then plan (point_of first) rest)
-    ∙ by_append (filter (is_at_named plan) (point_of first ∷ [])) (filter (is_at_named plan) rest) c
+    ap (λ list. grown_by (map (told_point v) (filter (is_at_named plan) (points_of list))) c) (drop_more points i first below ∙ ap (λ p. p ∷ drop (i + 1) points) (sym is))
+    ∙ ap (λ list. grown_by (map (told_point v) list) c) (point_then plan (point_of first) rest)
+    ∙ told_append v (filter (is_at_named plan) (point_of first ∷ [])) (filter (is_at_named plan) rest) c
 
 -- Behind the last nothing is left.
-pub none_left : (plan : Plan) (points : List PointCode) (i : ℕ) (c : Certificate) → length points ≤ i
-    → grown_by (filter (is_at_named plan) (points_of (drop i points))) c ≡ Some c
+pub none_left : (v : Version) (plan : Plan) (points : List PointCode) (i : ℕ) (c : Certificate) → length points ≤ i
+    → grown_by (map (told_point v) (filter (is_at_named plan) (points_of (drop i points)))) c ≡ Some c
 unfolding grown_by
-none_left plan points i c past = ap (λ list. grown_by (filter (is_at_named plan) (points_of list)) c) (drop_of_length-le points past)
+none_left v plan points i c past = ap (λ list. grown_by (map (told_point v) (filter (is_at_named plan) (points_of list))) c) (drop_of_length-le points past)

@@ -12,7 +12,7 @@ use Rattle.std.proofs.Math.Seq.{set-append_seam}
 use Rattle.std.proofs.lemmas.Slice.Eq.{bytes_eq-Decides}
 use Rattle.std.specs.Cmp.{nat_cmp_is}
 use Rattle.std.specs.Cmp.Lexicographic.{slice_cmp}
-use Rattle.certificate.specs.Bounds.{ModeBound, Slot, Closed, Open, Maybe, Bound, PointBound, Two, Certificate, full_interval, with_slot}
+use Rattle.certificate.specs.Bounds.{ModeBound, Slot, Closed, Open, Maybe, Bound, PointBound, Version, Certificate, full_interval, with_slot}
 use Rattle.certificate.specs.Growth.{above_blocks, all_from, copies, distinct, distinct_behind, has_room, programs_of_block, programs_of_slot, stands, taken, with_line, No_room, Out_of_order}
 use Rattle.certificate.specs.Order.{same_class}
 use Rattle.certificate.specs.Lines.{Line, Begins_block, Bounds_slot, block_lines, is_closed, register_lines, slot_lines}
@@ -24,8 +24,8 @@ use Rattle.searcher.specs.Flat.{points_from}
 use Rattle.instruction_set.specs.Programs.{Instruction}
 
 -- a certificate without channels
-abbrev pub of_points : List PointBound → Certificate
-of_points points = record { version = Two; points = points; channels = []; authorities = [] }
+abbrev pub of_points : Version → List PointBound → Certificate
+of_points v points = record { version = v; points = points; channels = []; authorities = [] }
 
 abbrev pub names : List PointBound → List (List ℕ)
 names points = flat_map programs_of_block points
@@ -80,16 +80,16 @@ few_classes = refl
 room_from : (program : List ℕ) (list : List (List ℕ)) → few_names list ≡ true → (few_names list && nat_le (length (distinct same_class [])) 32) ≡ true
 room_from program list few = (λ k. few k && few_classes k)
 
-begin_room : (points : List PointBound) (program : List ℕ) (point : ℕ) (mode : ModeBound) → few_names (names points ++ program ∷ []) ≡ true
-    → has_room (of_points points) (Begins_block program point mode) ≡ true
-begin_room points program point mode few =
+begin_room : (v : Version) (points : List PointBound) (program : List ℕ) (point : ℕ) (mode : ModeBound) → few_names (names points ++ program ∷ []) ≡ true
+    → has_room (of_points v points) (Begins_block program point mode) ≡ true
+begin_room v points program point mode few =
     ap (λ list. few_names (list ++ program ∷ []) && nat_le (length (distinct same_class [])) 32) (append-nil (names points ++ []) ∙ append-nil (names points))
     ∙ room_from program (names points ++ program ∷ []) few
 
-slot_room : (points : List PointBound) (program : List ℕ) (point : ℕ) (mode : ModeBound) (slots : List Slot) (n : ℕ) (s : Slot) → AllPlain slots
+slot_room : (v : Version) (points : List PointBound) (program : List ℕ) (point : ℕ) (mode : ModeBound) (slots : List Slot) (n : ℕ) (s : Slot) → AllPlain slots
     → programs_of_slot s ≡ [] → few_names (names points ++ program ∷ []) ≡ true
-    → has_room (of_points (points ++ block_with program point mode slots ∷ [])) (Bounds_slot n s) ≡ true
-slot_room points program point mode slots n s plain is few =
+    → has_room (of_points v (points ++ block_with program point mode slots ∷ [])) (Bounds_slot n s) ≡ true
+slot_room v points program point mode slots n s plain is few =
     let all = names (points ++ block_with program point mode slots ∷ []) in
     let same : ((all ++ []) ++ []) ++ programs_of_slot s ≡ names points ++ program ∷ [] =
     ap (λ rest. ((all ++ []) ++ []) ++ rest) is ∙ append-nil ((all ++ []) ++ []) ∙ append-nil (all ++ []) ∙ append-nil all ∙ names_behind points program point mode slots plain in
@@ -108,18 +108,18 @@ unfolding all_from
 closed_copies zero = refl
 closed_copies (suc n) = closed_copies n
 
-module _ (points : List PointBound) (program : List ℕ) (point : ℕ) (mode : ModeBound) (few : few_names (names points ++ program ∷ []) ≡ true) where
+module _ (v : Version) (points : List PointBound) (program : List ℕ) (point : ℕ) (mode : ModeBound) (few : few_names (names points ++ program ∷ []) ≡ true) where
   abbrev state : List Slot → Certificate
-  state slots = of_points (points ++ block_with program point mode slots ∷ [])
+  state slots = of_points v (points ++ block_with program point mode slots ∷ [])
 
   slot_taken : (done : List Slot) (n : ℕ) (s : Slot) → AllPlain done → programs_of_slot s ≡ []
       → taken (state (done ++ copies (suc n) Closed)) (Bounds_slot (length done) s) ≡ Ok (state ((done ++ s ∷ []) ++ copies n Closed))
   slot_taken done n s plain is =
       let slots = done ++ copies (suc n) Closed in
-      let room = slot_room points program point mode slots (length done) s (plain_closed done (suc n) plain) is few in
+      let room = slot_room v points program point mode slots (length done) s (plain_closed done (suc n) plain) is few in
       let stand = may_bound_slot-last (length done) points (block_with program point mode slots) ∙ all_from_seam is_closed done (copies (suc n) Closed) ∙ closed_copies (suc n) in
       is_taken (state slots) (Bounds_slot (length done) s) room stand
-      ∙ ap (λ list. Ok (of_points list)) (last_changed (λ b. with_slot b (length done) s) points (block_with program point mode slots))
+      ∙ ap (λ list. Ok (of_points v list)) (last_changed (λ b. with_slot b (length done) s) points (block_with program point mode slots))
       ∙ ap (λ list. Ok (state list)) (set-append_seam done Closed (copies n Closed) s ∙ sym (append_assoc done (s ∷ []) (copies n Closed)))
 
   -- the slots of a block from one on, where the others are closed yet
@@ -143,10 +143,10 @@ module _ (points : List PointBound) (program : List ℕ) (point : ℕ) (mode : M
       ∙ next ∙ ap (λ list. Some (state list)) (append_assoc done (Maybe h ∷ []) todo)
 
   pub block_grown : (slots : List Slot) → length slots ≡ 16 → AllPlain slots → above_blocks points program point ≡ true
-      → grown (block_lines (block_with program point mode slots)) (of_points points) ≡ Some (state slots)
+      → grown (block_lines (block_with program point mode slots)) (of_points v points) ≡ Some (state slots)
   unfolding grown register_lines AllPlain
   block_grown slots long plain above =
-      ap (grown_behind (grown (slot_lines 0 slots))) (is_taken (of_points points) (Begins_block program point mode) (begin_room points program point mode few) above)
+      ap (grown_behind (grown (slot_lines 0 slots))) (is_taken (of_points v points) (Begins_block program point mode) (begin_room v points program point mode few) above)
       ∙ ap (λ n. grown (slot_lines 0 slots) (state (copies n Closed))) (sym long)
       ∙ slots_grown [] slots tt plain
 
@@ -209,15 +209,15 @@ module _ (name : List ℕ) (mode : ModeBound) (slots : List Slot) (long : length
       ∙ ap few_names (append_assoc (names points) (name ∷ []) (copies k name)) ∙ room (suc k)
 
   -- the points of a program from one on
-  pub points_grown : (points : List PointBound) (point : ℕ) (code : List Instruction) → ((k : ℕ) → few_names (names points ++ copies k name) ≡ true)
-      → above_blocks points name point ≡ true → grown_by (run point code) (of_points points) ≡ Some (of_points (points ++ run point code))
+  pub points_grown : (v : Version) (points : List PointBound) (point : ℕ) (code : List Instruction) → ((k : ℕ) → few_names (names points ++ copies k name) ≡ true)
+      → above_blocks points name point ≡ true → grown_by (run point code) (of_points v points) ≡ Some (of_points v (points ++ run point code))
   unfolding grown_by points_from
-  points_grown points point [] room above = ap (λ list. Some (of_points list)) (sym (append-nil points))
-  points_grown points point (i ∷ code) room above =
+  points_grown v points point [] room above = ap (λ list. Some (of_points v list)) (sym (append-nil points))
+  points_grown v points point (i ∷ code) room above =
       let b = block_with name point mode slots in
-      let next = points_grown (points ++ b ∷ []) (point + 1) code (room_behind points point room) (next_above points b) in
-      ap (then_grown (grown_by (run (point + 1) code))) (block_grown points name point mode (room 1) slots long plain above)
-      ∙ next ∙ ap (λ list. Some (of_points list)) (append_assoc points (b ∷ []) (run (point + 1) code))
+      let next = points_grown v (points ++ b ∷ []) (point + 1) code (room_behind points point room) (next_above points b) in
+      ap (then_grown (grown_by (run (point + 1) code))) (block_grown v points name point mode (room 1) slots long plain above)
+      ∙ next ∙ ap (λ list. Some (of_points v list)) (append_assoc points (b ∷ []) (run (point + 1) code))
 
   -- their names
   pub run_names : (point : ℕ) (code : List Instruction) → names (run point code) ≡ copies (length code) name

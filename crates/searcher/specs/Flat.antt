@@ -6,13 +6,15 @@ use Rattle.std.specs.Ordering.{is_lt}
 use Rattle.rights.specs.Classes.{Initial}
 use Rattle.file_tree.specs.Nodes.{node}
 use Rattle.file_tree.specs.Places.{begins}
-use Rattle.certificate.specs.Bounds.{ModeBound, Off, On, Either, Target, In_grant, Any_node, Socket, Held, Bound, PointBound, Two, Certificate, with_slot}
+use Rattle.certificate.specs.Bounds.{ModeBound, Off, On, Either, Target, In_grant, Any_node, Socket, Held, Bound, PointBound, Certificate, with_slot}
 use Rattle.certificate.specs.Bounds as bounds
 use Rattle.certificate.specs.Growth.{name_order, open_bound}
+use Rattle.certificate.specs.Told.{told_held}
 use Rattle.instruction_set.specs.Programs.{Instruction}
 use Rattle.task.specs.Plans.{Grant, FirstObject, On_node, On_end, FirstDescriptor, Start, Plan, program_name, programs_of_plan, none_marked}
 use Rattle.task.specs.Limits.{all_apart}
 use Rattle.rules.specs.Outcomes.{enters_mode}
+use Rattle.searcher.specs.Versions.{flat_version}
 
 -- the grant that holds a place, of which there is one at most
 unfoldable pub grant_target : List Grant → List (List ℕ) → Target
@@ -23,15 +25,15 @@ abbrev pub first_target : Plan → FirstObject → Target
 first_target plan (On_node n access) = grant_target plan.grants (node plan.nodes n).place
 first_target plan (On_end pair side) = Socket (Initial pair) side
 
--- with the rights and commands that it has
+-- with the rights and commands that it has, as the certificate tells it
 abbrev pub first_held : Plan → FirstDescriptor → Held
-first_held plan d = record {
+first_held plan d = told_held (flat_version plan) (record {
   target = first_target plan d.object;
   least = d.rights;
   greatest = d.rights;
   least_fcntls = d.fcntls;
   greatest_fcntls = d.fcntls;
-}
+})
 
 -- the bound with these descriptors, open
 abbrev pub with_first : Plan → Bound → List FirstDescriptor → Bound
@@ -90,9 +92,9 @@ flat_points plan = points_behind plan plan.starts []
 abbrev pub have_own : List Start → Bool
 have_own starts = all_apart (λ (s t : Start). not (s.program == t.program)) starts
 
--- THE FLAT CERTIFICATE, of version 2. A task has none in which two of the first processes have one program, or one is marked.
+-- THE FLAT CERTIFICATE, of version 2, or of version 4 where the task asks for further rights. A task has none in which two of the first processes have one program, or one is marked.
 unfoldable pub plain_flat : Plan → Option Certificate
-plain_flat plan = if have_own plan.starts then Some (record { version = Two; points = flat_points plan; channels = []; authorities = [] }) else None
+plain_flat plan = if have_own plan.starts then Some (record { version = flat_version plan; points = flat_points plan; channels = []; authorities = [] }) else None
 
 abbrev pub flat : Plan → Option Certificate
 flat plan = if none_marked plan then plain_flat plan else None

@@ -1,3 +1,4 @@
+pub mod Versions
 pub mod Flat
 pub mod Shortening
 pub mod PointStateViews

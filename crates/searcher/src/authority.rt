@@ -1,15 +1,18 @@
 //! What an untrusted program needs in the mode: its authority, which grows by what it may take there.
 
-ghost use Rattle.std.specs.Prelude.{◌≡◌, ◌≤◌, OnOk, length, true};
+ghost use Rattle.std.specs.Prelude.{◌≡◌, ◌≤◌, IfSome, OnOk, length, true};
 ghost use Rattle.std.specs.List.{list_all};
 ghost use Rattle.certificate.specs.Bounds.{has_authorities};
+ghost use Rattle.certificate.specs.Told.{is_told_ceiling};
+ghost use Rattle.certificate.specs.Views.{ceiling_of, version_of};
 ghost use Rattle.task.specs.Limits.{is_start};
 ghost use Rattle.task.specs.Views.{starts_of};
 
 use crate::channels::Channels;
 use crate::point_states::{PointState, ProgramPoints};
 use crate::rounds::first_bound;
-use certificate::{Bound, Ceiling, Cert, Domain, End, Held, Line, Refusal, Target};
+use crate::versions::marked_version;
+use certificate::{Bound, Ceiling, Cert, Domain, End, Held, Line, Refusal, Target, Version};
 use instruction_set::Instruction;
 use rights::Rights;
 use std::alloc::{AllocError, Global};
@@ -17,10 +20,12 @@ use task::{Start, Task};
 use texts::Name;
 use transfer::enters_mode;
 
-/// What a program needs in the mode: rights in grants, by their names, and ends in the order of channels.
+/// What a program needs in the mode: rights in grants, by their names, as a certificate of this version says them, and ends in the
+/// order of channels.
 #[derive(Drop)]
 pub(crate) struct Need {
     program: Name,
+    version: Version,
     ceilings: Vec<Ceiling>,
     ends: Vec<End>,
     changed: bool,
@@ -50,8 +55,18 @@ fn place_of_end(ends: &[End], end: &End) -> usize
     ends.len()
 }
 
+/// Those of these rights of which an authority in a certificate of this version says something.
+#[tactic(auto, using(crate::proofs::Authorities::asked_are_told))]
+fn said_rights(version: Version, rights: Rights) -> Rights
+    ensures { is_told_ceiling (version_of version) result.0 ≡ true }
+{
+    rights.asked(version.tells_further())
+}
+
 /// The ceiling with these rights in a grant, if there are any.
-fn ceiling(grant: Name, rights: Rights) -> Option<Ceiling> {
+fn ceiling(grant: Name, rights: Rights) -> Option<Ceiling>
+    ensures { IfSome result (λ ceiling. (ceiling_of ceiling).rights ≡ rights.0) }
+{
     if rights == Rights::empty() || !Rights::all().contains(rights) {
         return None;
     }
@@ -60,9 +75,10 @@ fn ceiling(grant: Name, rights: Rights) -> Option<Ceiling> {
 
 impl Need {
     /// A program needs nothing yet.
-    fn new(alloc: Global, program: Name) -> Need {
+    fn new(alloc: Global, program: Name, version: Version) -> Need {
         Need {
             program,
+            version,
             ceilings: Vec::new(alloc),
             ends: Vec::new(alloc),
             changed: false,
@@ -71,7 +87,7 @@ impl Need {
 
     /// Has rights in a grant be needed, if there are any.
     fn add_rights(&mut self, grant: Name, held: &Held) -> Result<(), AllocError> {
-        let rights = held.rights().greatest();
+        let rights = said_rights(self.version, held.rights().greatest());
         let at = place_of_grant(&self.ceilings, &grant);
         if let Some(there) = self.ceilings.get_mut(at) {
             if there.grant().as_bytes() == grant.as_bytes() {
@@ -191,9 +207,12 @@ fn take_starts(task: &Task, need: &mut Need, program: usize) -> Result<(), Alloc
 
 /// The marked programs, none of which needs anything yet.
 pub(crate) fn all_needs(alloc: Global, task: &Task) -> Result<Vec<Option<Need>>, AllocError> {
+    let version = marked_version(task);
     let mut needs = Vec::new(alloc);
     for program in task.programs() {
-        let need = program.untrusted.then(|| Need::new(alloc, program.name));
+        let need = program
+            .untrusted
+            .then(|| Need::new(alloc, program.name, version));
         needs.push(need)?;
     }
     Ok(needs)
@@ -238,7 +257,7 @@ pub(crate) fn learn_needs(
     Ok(any || channels.changed)
 }
 
-/// Adds ceilings to the last authority.
+/// Adds ceilings to the last authority, with the rights that the certificate's version says.
 fn push_ceilings(cert: &mut Cert, ceilings: &[Ceiling]) -> Result<(), Refusal>
     requires { has_authorities cert.old.version ≡ true }
     ensures { cert.new.version ≡ cert.old.version }
@@ -246,7 +265,10 @@ fn push_ceilings(cert: &mut Cert, ceilings: &[Ceiling]) -> Result<(), Refusal>
     match ceilings {
         [] => Ok(()),
         [first, rest @ ..] => {
-            cert.push(&Line::Ceiling(*first))?;
+            let rights = said_rights(cert.version(), first.rights());
+            if let Some(said) = ceiling(*first.grant(), rights) {
+                cert.push(&Line::Ceiling(said))?;
+            }
             push_ceilings(cert, rest)
         }
     }

@@ -48,11 +48,11 @@ fn index_of(lines: &[Channel], end: &End) -> usize
 }
 
 impl Channels {
-    /// No channels.
-    pub(crate) fn new(alloc: Global) -> Channels {
+    /// No channels, as a certificate of this version tells them.
+    pub(crate) fn new(alloc: Global, version: Version) -> Channels {
         Channels {
             lines: Vec::new(alloc),
-            cert: Cert::new(alloc, Version::Two),
+            cert: Cert::new(alloc, version),
             changed: false,
         }
     }
@@ -86,15 +86,19 @@ impl Channels {
     /// Makes the certificate of the channels again, where one changed.
     fn keep_lines(&mut self, alloc: Global) -> Result<(), Refusal> {
         if self.changed {
-            let mut cert = Cert::new(alloc, Version::Two);
+            let mut cert = Cert::new(alloc, self.cert.version());
             push_channels(&mut cert, &self.lines)?;
             self.cert = cert;
         }
         Ok(())
     }
 
-    /// Lets what is sent from an end be this too.
+    /// Lets what is sent from an end be this too, as the certificate tells it.
     fn add(&mut self, end: End, sends: Option<Held>) -> Result<(), AllocError> {
+        let sends = match sends {
+            None => None,
+            Some(held) => Some(held.told_in(self.cert.version())),
+        };
         let at = index_of(&self.lines, &end);
         if let Some(line) = self.lines.get_mut(at) {
             if end.compare(&line.end()).is_eq() {

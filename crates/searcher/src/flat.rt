@@ -2,6 +2,7 @@
 
 ghost use Rattle.std.specs.Prelude.{◌≡◌, ◌+◌, ◌≤◌, ◌<◌, length, map, true, false, option_map, not, ◌==◌, IfOk, IfSome};
 ghost use Rattle.std.specs.List.{list_all, list_any};
+ghost use Rattle.certificate.specs.Told.{told_bound};
 ghost use Rattle.certificate.specs.Views.{bound_of, held_of, mode_of, target_of};
 ghost use Rattle.texts.specs.Views.{name_of};
 ghost use Rattle.file_tree.specs.Nodes.{node};
@@ -14,10 +15,12 @@ ghost use Rattle.certificate.specs.GrowthViews.{Grows};
 ghost use Rattle.rules.specs.Outcomes.{enters_mode};
 ghost use Rattle.searcher.specs.Flat.{first_held, first_target, flat, plain_flat, flat_bound, flat_points_of, grant_target, have_own, flat_mode, name_of_start};
 ghost use Rattle.searcher.specs.Flat.{next_behind, points_behind, points_from, with_first};
+ghost use Rattle.searcher.specs.Versions.{flat_version};
 
+use crate::versions::flat_version;
 use certificate::{
     Bound, Cert, Class, FcntlsRange, Held, ModeBound, Pair, Refusal, RightsRange, Slot, Target,
-    Version, push_block,
+    push_block,
 };
 use instruction_set::Instruction;
 use std::alloc::{AllocError, Global};
@@ -52,7 +55,7 @@ fn first_target(task: &Task, object: FirstObject) -> Target
     }
 }
 
-/// The bound of a first descriptor.
+/// The bound of a first descriptor, as the certificate tells it.
 fn first_held(task: &Task, descriptor: FirstDescriptor) -> Held
     requires { is_descriptor task.now.nodes (first_descriptor_of descriptor) ≡ true }
     ensures { held_of result ≡ first_held task.now (first_descriptor_of descriptor) }
@@ -62,6 +65,7 @@ fn first_held(task: &Task, descriptor: FirstDescriptor) -> Held
         RightsRange::new(descriptor.rights, descriptor.rights),
         FcntlsRange::new(descriptor.fcntls, descriptor.fcntls),
     )
+    .told_in(flat_version(task))
 }
 
 /// The bound with these descriptors, open.
@@ -122,7 +126,7 @@ fn flat_bound(task: &Task, start: &Start) -> Bound
     with_first(task, bound, &start.descriptors)
 }
 
-/// Adds a bound at each point from one on.
+/// Adds a bound at each point from one on, as the certificate's version tells it.
 #[tactic(auto, unfolding(certificate::specs::Growths::grown_by, crate::specs::Flat::points_from))]
 fn push_points(
     cert: &mut Cert,
@@ -132,7 +136,7 @@ fn push_points(
     code: &[Instruction],
 ) -> Result<(), Refusal>
     requires { point + length code.now ≤ 256 }
-    ensures { Grows result cert.new (grown_by (points_from (name_of name.now) (bound_of bound.now) point (code_of code.now)) cert.old) }
+    ensures { Grows result cert.new (grown_by (points_from (name_of name.now) (told_bound cert.old.version (bound_of bound.now)) point (code_of code.now)) cert.old) }
 {
     match code {
         [] => Ok(()),
@@ -169,7 +173,8 @@ fn next_behind<'a>(task: &Task, name: &[u8], starts: &'a [Start]) -> Option<&'a 
 
 /// Adds the points of a first process's program.
 fn push_start(cert: &mut Cert, task: &Task, start: &Start) -> Result<(), Refusal>
-    requires { is_start task.now.nodes (length task.now.programs) (start_of start.now) ≡ true }
+    requires start { is_start task.now.nodes (length task.now.programs) (start_of start.now) ≡ true }
+    requires version { cert.old.version ≡ flat_version task.now }
     ensures { Grows result cert.new (grown_by (flat_points_of task.now (start_of start.now)) cert.old) }
 {
     let bound = flat_bound(task, start);
@@ -182,6 +187,7 @@ fn push_start(cert: &mut Cert, task: &Task, start: &Start) -> Result<(), Refusal
 /// Adds the points of the first processes behind a name, of as many as there are turns.
 #[tactic(auto, using(certificate::proofs::Growths::by_append), unfolding(certificate::specs::Growths::grown_by, crate::specs::Flat::points_behind))]
 fn push_behind(cert: &mut Cert, task: &Task, turns: &[Start], name: &[u8]) -> Result<(), Refusal>
+    requires { cert.old.version ≡ flat_version task.now }
     ensures { Grows result cert.new (grown_by (points_behind task.now (starts_of turns.now) name.now) cert.old) }
 {
     match turns {
@@ -226,7 +232,7 @@ fn plain_flat(alloc: Global, task: &Task) -> Result<Option<Cert>, AllocError>
     if !have_own(task.starts()) {
         return Ok(None);
     }
-    let mut cert = Cert::new(alloc, Version::Two);
+    let mut cert = Cert::new(alloc, flat_version(task));
     match push_behind(&mut cert, task, task.starts(), b"") {
         Ok(()) => Ok(Some(cert)),
         Err(Refusal::Memory) => Err(AllocError),

@@ -10,6 +10,7 @@ mod proposing;
 mod rounds;
 mod searching;
 mod shortening;
+mod versions;
 
 pub use proposing::{propose, reached};
 pub use searching::search;

@@ -7,7 +7,7 @@ ghost use Rattle.rules.specs.Outcomes.{Outcome as OutcomeSeen};
 ghost use Rattle.transfer.specs.OutcomeViews.{outcome_of};
 ghost use Rattle.searcher.specs.PointStateViews.{lies_in};
 
-use certificate::{Bound, Domain, Interval};
+use certificate::{Bound, Domain, Interval, Version};
 use instruction_set::Instruction;
 use rights::limits::REGISTERS;
 use std::alloc::{AllocError, Global};
@@ -49,11 +49,12 @@ impl PointRange {
     }
 }
 
-/// A program's points, with the constants at which its registers are compared or set. Those that came to wait are in a range, so
-/// that no other is looked at.
+/// A program's points, with the constants at which its registers are compared or set. Their bounds are told as a certificate of
+/// this version tells them. Those that came to wait are in a range, so that no other is looked at.
 #[derive(Drop)]
 pub(crate) struct ProgramPoints {
     pub name: Name,
+    version: Version,
     constants: Vec<u32>,
     pub point_states: Vec<PointState>,
     pub waiting: PointRange,
@@ -143,6 +144,15 @@ fn grown_to(there: &Bound, outcome: &Outcome<'_>, changes: u32, constants: &[u32
     widened(there, &joined, constants, changes > MANY_CHANGES)
 }
 
+/// A bound as this version tells it, which is above what it was.
+fn told(bound: Bound, version: Version) -> Bound
+    ensures { bound_within (bound_of bound) (bound_of result) ≡ true }
+{
+    let mut told = bound;
+    told.tell_in(version);
+    told
+}
+
 impl PointState {
     /// A point that isn't reached.
     fn new() -> PointState {
@@ -153,14 +163,14 @@ impl PointState {
         }
     }
 
-    /// Takes an outcome: the bound grows to hold it, and waits where it grew.
-    fn take(&mut self, outcome: &Outcome<'_>, constants: &[u32])
+    /// Takes an outcome: the bound grows to hold it, as this version tells it, and waits where it grew.
+    fn take(&mut self, outcome: &Outcome<'_>, constants: &[u32], version: Version)
         ensures outcome { lies_in self.new.bound (outcome_of outcome.now) ≡ true }
         ensures grows { (o : OutcomeSeen) → lies_in self.old.bound o ≡ true → lies_in self.new.bound o ≡ true }
         ensures waits { (self.new.waits ≡ true) ⊎ (self.new.bound ≡ self.old.bound) }
     {
         let Some(there) = &self.bound else {
-            self.bound = Some(outcome.bound_there());
+            self.bound = Some(told(outcome.bound_there(), version));
             self.waits = true;
             return;
         };
@@ -170,7 +180,7 @@ impl PointState {
         let changes = self.changes.saturating_add(1);
         let grown = grown_to(there, outcome, changes, constants);
         self.changes = changes;
-        self.bound = Some(grown);
+        self.bound = Some(told(grown, version));
         self.waits = true;
     }
 }
@@ -201,10 +211,11 @@ fn constants_of(alloc: Global, code: &[Instruction]) -> Result<Vec<u32>, AllocEr
 }
 
 impl ProgramPoints {
-    /// The points of a program, none of them reached.
+    /// The points of a program, none of them reached, whose bounds this version tells.
     pub(crate) fn new(
         alloc: Global,
         name: Name,
+        version: Version,
         code: &[Instruction],
     ) -> Result<ProgramPoints, AllocError> {
         let constants = constants_of(alloc, code)?;
@@ -214,6 +225,7 @@ impl ProgramPoints {
         }
         Ok(ProgramPoints {
             name,
+            version,
             constants,
             point_states,
             waiting: PointRange::NONE,
@@ -259,7 +271,7 @@ impl OutcomeVisitor for ProgramPoints {
         ensures taken { IfSome (slice_get self.new.point_states.items outcome.now.point) (λ point_state. lies_in point_state.bound (outcome_of outcome.now) ≡ true) }
     {
         if let Some(point_state) = self.point_states.get_mut(outcome.point) {
-            point_state.take(outcome, &self.constants);
+            point_state.take(outcome, &self.constants, self.version);
             if point_state.waits {
                 self.waiting.hold(outcome.point);
             }

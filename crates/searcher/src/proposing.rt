@@ -1,10 +1,11 @@
 //! The search for a certificate of a task with untrusted programs.
 
 ghost use Rattle.std.specs.Prelude.{◌≡◌, true, false, IfOk, IfSome, OnOk};
-ghost use Rattle.certificate.specs.Bounds.{Certificate, Two, Three, has_authorities};
+ghost use Rattle.certificate.specs.Bounds.{Certificate, has_authorities};
 ghost use Rattle.checker.specs.Verdicts.{IsAccepted};
 ghost use Rattle.searcher.specs.Flat.{flat};
 ghost use Rattle.searcher.specs.Shortening.{short_form};
+ghost use Rattle.searcher.specs.Versions.{flat_version, marked_version};
 ghost use Rattle.task.specs.Plans.{none_marked};
 
 use crate::authority::{Need, all_needs, learn_needs, push_needs};
@@ -14,7 +15,8 @@ use crate::point_states::ProgramPoints;
 use crate::rounds::{all_program_points, settle, wake_receivers};
 use crate::searching::{by_points, is_accepted, search};
 use crate::shortening::push_named;
-use certificate::{Cert, Refusal, Version, push_authorities, push_channels};
+use crate::versions::marked_version;
+use certificate::{Cert, Refusal, push_authorities, push_channels};
 use rights::Memory;
 use std::alloc::Global;
 use task::{Task, none_marked};
@@ -72,10 +74,11 @@ fn drawn(
     mut all_points: Vec<ProgramPoints>,
     mut needs: Vec<Option<Need>>,
 ) -> Result<Option<Cert>, Refusal>
-    ensures { IfOk result (λ found. IfSome found (λ cert. cert.version ≡ Three)) }
+    ensures { IfOk result (λ found. IfSome found (λ cert. cert.version ≡ marked_version task.now)) }
 {
-    let mut channels = Channels::new(alloc);
-    let mut cert = Cert::new(alloc, Version::Three);
+    let version = marked_version(task);
+    let mut channels = Channels::new(alloc, version);
+    let mut cert = Cert::new(alloc, version);
     match push_all(
         alloc,
         task,
@@ -92,7 +95,7 @@ fn drawn(
 
 /// The same where it isn't refused for its length.
 fn proposed(alloc: Global, task: &Task) -> Result<Option<Cert>, Memory>
-    ensures { IfOk result (λ found. IfSome found (λ cert. cert.version ≡ Three)) }
+    ensures { IfOk result (λ found. IfSome found (λ cert. cert.version ≡ marked_version task.now)) }
 {
     let all_points = all_program_points(alloc, task)?;
     let needs = all_needs(alloc, task)?;
@@ -106,7 +109,8 @@ fn proposed(alloc: Global, task: &Task) -> Result<Option<Cert>, Memory>
 /// Adds the bounds of a certificate at named points, its channels and its authorities.
 #[tactic(auto, using(certificate::proofs::Growths::grown_keeps, certificate::proofs::Growths::by_keeps, crate::proofs::Authorities::with_keeps))]
 fn push_short(short: &mut Cert, task: &Task, cert: &Cert) -> Result<(), Refusal>
-    requires { has_authorities short.old.version ≡ true }
+    requires authorities { has_authorities short.old.version ≡ true }
+    requires same { short.old.version ≡ cert.now.version }
     ensures { OnOk result (short.new.version ≡ short.old.version) }
 {
     push_named(short, task, cert.points())?;
@@ -114,11 +118,12 @@ fn push_short(short: &mut Cert, task: &Task, cert: &Cert) -> Result<(), Refusal>
     push_authorities(short, cert.authorities())
 }
 
-/// The same certificate with bounds at named points alone, in version 3, if it isn't refused.
+/// The same certificate, of a version with authorities, with bounds at named points alone, if it isn't refused.
 fn shortened(alloc: Global, task: &Task, cert: &Cert) -> Result<Option<Cert>, Memory>
-    ensures { IfOk result (λ found. IfSome found (λ short. short.version ≡ Three)) }
+    requires { has_authorities cert.now.version ≡ true }
+    ensures { IfOk result (λ found. IfSome found (λ short. short.version ≡ cert.now.version)) }
 {
-    let mut short = Cert::new(alloc, Version::Three);
+    let mut short = Cert::new(alloc, cert.version());
     match push_short(&mut short, task, cert) {
         Ok(()) => Ok(Some(short)),
         Err(Refusal::Memory) => Err(Memory),
@@ -139,9 +144,10 @@ fn accepted(task: &Task, proposed: Option<Cert>) -> Option<Cert>
 }
 
 /// What is found for a task with an untrusted program.
+#[tactic(auto, using(crate::proofs::VersionLaws::marked_has))]
 fn found(alloc: Global, task: &Task) -> Result<Option<Cert>, Memory>
     ensures accepted { IfOk result (λ found. IfSome found (λ cert. IsAccepted task.now cert)) }
-    ensures version { IfOk result (λ found. IfSome found (λ cert. cert.version ≡ Three)) }
+    ensures version { IfOk result (λ found. IfSome found (λ cert. cert.version ≡ marked_version task.now)) }
 {
     let Some(cert) = proposed(alloc, task)? else {
         return Ok(None);
@@ -153,11 +159,12 @@ fn found(alloc: Global, task: &Task) -> Result<Option<Cert>, Memory>
 }
 
 /// What the search comes to, whether or not the checker accepts it: bounds of each point that it reaches, in version 2; of a task with a
-/// marked program in version 3, with the authorities that its programs seem to need. Nothing where it gives up: the bounds don't settle, or are
-/// more than a certificate has. `Memory` may come in place of any other answer. (own)
+/// marked program in version 3, with the authorities that its programs seem to need; and of either in version 4 where the task asks for
+/// further rights. Nothing where it gives up: the bounds don't settle, or are more than a certificate has. `Memory` may come in place of any
+/// other answer. (own)
 pub fn reached(alloc: Global, task: &Task) -> Result<Option<Cert>, Memory>
-    ensures marked { none_marked task.now ≡ false → IfOk result (λ found. IfSome found (λ cert. cert.version ≡ Three)) }
-    ensures unmarked { none_marked task.now ≡ true → IfOk result (λ found. IfSome found (λ cert. cert.version ≡ Two)) }
+    ensures marked { none_marked task.now ≡ false → IfOk result (λ found. IfSome found (λ cert. cert.version ≡ marked_version task.now)) }
+    ensures unmarked { none_marked task.now ≡ true → IfOk result (λ found. IfSome found (λ cert. cert.version ≡ flat_version task.now)) }
 {
     if none_marked(task.programs()) {
         return by_points(alloc, task);
@@ -165,14 +172,14 @@ pub fn reached(alloc: Global, task: &Task) -> Result<Option<Cert>, Memory>
     proposed(alloc, task)
 }
 
-/// A certificate of a task that the checker accepts, if one is found. For a task with an untrusted program it is of version 3: what
-/// each such program takes into the mode, and what may come to it there, is its authority, and of the other points there are bounds
-/// as `search` finds them. Of other tasks it gives what `search` gives. `Memory` may come in place of any other answer. It always
+/// A certificate of a task that the checker accepts, if one is found. For a task with an untrusted program it is of version 3, or of
+/// version 4 where the task asks for further rights: what each such program takes into the mode, and what may come to it there, is
+/// its authority, and of the other points there are bounds as `search` finds them. Of other tasks it gives what `search` gives. `Memory` may come in place of any other answer. It always
 /// ends. (own)
 pub fn propose(alloc: Global, task: &Task) -> Result<Option<Cert>, Memory>
     ensures accepted { IfOk result (λ found. IfSome found (λ cert. IsAccepted task.now cert)) }
-    ensures marked { none_marked task.now ≡ false → IfOk result (λ found. IfSome found (λ cert. cert.version ≡ Three)) }
-    ensures version { none_marked task.now ≡ true → IfOk result (λ found. IfSome found (λ cert. cert.version ≡ Two)) }
+    ensures marked { none_marked task.now ≡ false → IfOk result (λ found. IfSome found (λ cert. cert.version ≡ marked_version task.now)) }
+    ensures version { none_marked task.now ≡ true → IfOk result (λ found. IfSome found (λ cert. cert.version ≡ flat_version task.now)) }
     ensures short { none_marked task.now ≡ true → IfOk result (λ found. IfSome found (λ cert.
         IsAccepted task.now (short_form task.now cert) → cert ≡ short_form task.now cert)) }
     ensures flat { none_marked task.now ≡ true → result ≡ Ok None →

@@ -10,6 +10,7 @@ ghost use Rattle.transfer.specs.Limits.{leaves_known};
 use crate::channels::Channels;
 use crate::flat::with_first;
 use crate::point_states::ProgramPoints;
+use crate::versions::flat_version;
 use call_facts::{Passed, passed_by};
 use certificate::{Bound, Interval, ModeBound, Refusal, Slot};
 use instruction_set::Instruction;
@@ -71,9 +72,10 @@ pub(crate) fn all_program_points(
     alloc: Global,
     task: &Task,
 ) -> Result<Vec<ProgramPoints>, AllocError> {
+    let version = flat_version(task);
     let mut all_points = Vec::new(alloc);
     for program in task.programs() {
-        all_points.push(ProgramPoints::new(alloc, program.name, program.program.code())?)?;
+        all_points.push(ProgramPoints::new(alloc, program.name, version, program.program.code())?)?;
     }
     Ok(all_points)
 }

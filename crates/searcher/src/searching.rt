@@ -1,10 +1,11 @@
 //! The search.
 
 ghost use Rattle.std.specs.Prelude.{◌≡◌, true, false, IfOk, IfSome, IsOk, Ok};
-ghost use Rattle.certificate.specs.Bounds.{Certificate, Two};
+ghost use Rattle.certificate.specs.Bounds.{Certificate};
 ghost use Rattle.checker.specs.Verdicts.{IsAccepted};
 ghost use Rattle.searcher.specs.Flat.{flat};
 ghost use Rattle.searcher.specs.Shortening.{IsShort, short_form};
+ghost use Rattle.searcher.specs.Versions.{flat_version};
 ghost use Rattle.task.specs.Limits.{is_plan};
 ghost use Rattle.task.specs.Plans.{none_marked};
 
@@ -14,7 +15,8 @@ use crate::flat::flat;
 use crate::point_states::ProgramPoints;
 use crate::rounds::{all_program_points, settle};
 use crate::shortening::shortened;
-use certificate::{Cert, Refusal, Version};
+use crate::versions::flat_version;
+use certificate::{Cert, Refusal};
 use checker::{Verdict, check};
 use rights::Memory;
 use std::alloc::Global;
@@ -38,7 +40,7 @@ struct AllFound {
 /// Goes through all points until none waits, where that comes.
 fn settled(alloc: Global, task: &Task) -> Result<Option<AllFound>, Memory> {
     let mut all_points = all_program_points(alloc, task)?;
-    let mut channels = Channels::new(alloc);
+    let mut channels = Channels::new(alloc, flat_version(task));
     match settle(alloc, task, &mut channels, &mut all_points) {
         Ok(true) => {}
         Ok(false) | Err(Refusal::Limit | Refusal::Order) => return Ok(None),
@@ -62,10 +64,10 @@ fn has_room(added: Result<(), Refusal>) -> Result<bool, Memory>
 }
 
 /// All bounds that were found, as a certificate.
-fn drawn(alloc: Global, mut found: AllFound) -> Result<Option<Cert>, Memory>
-    ensures { IfOk result (λ cert. IfSome cert (λ c. c.version ≡ Two)) }
+fn drawn(alloc: Global, task: &Task, mut found: AllFound) -> Result<Option<Cert>, Memory>
+    ensures { IfOk result (λ cert. IfSome cert (λ c. c.version ≡ flat_version task.now)) }
 {
-    let mut cert = Cert::new(alloc, Version::Two);
+    let mut cert = Cert::new(alloc, flat_version(task));
     if !has_room(push_found(&mut cert, &mut found.all_points, &found.channels))? {
         return Ok(None);
     }
@@ -76,7 +78,7 @@ fn drawn(alloc: Global, mut found: AllFound) -> Result<Option<Cert>, Memory>
 fn drawn_short(alloc: Global, task: &Task, mut found: AllFound) -> Result<Option<Cert>, Memory>
     ensures { IfOk result (λ cert. IfSome cert (λ c. IsShort task.now c)) }
 {
-    let mut short = Cert::new(alloc, Version::Two);
+    let mut short = Cert::new(alloc, flat_version(task));
     if !has_room(push_found_short(&mut short, task, &mut found.all_points, &found.channels))? {
         return Ok(None);
     }
@@ -85,19 +87,19 @@ fn drawn_short(alloc: Global, task: &Task, mut found: AllFound) -> Result<Option
 
 /// The certificate that the search point by point proposes, if it comes to one.
 pub(crate) fn by_points(alloc: Global, task: &Task) -> Result<Option<Cert>, Memory>
-    ensures { IfOk result (λ found. IfSome found (λ cert. cert.version ≡ Two)) }
+    ensures { IfOk result (λ found. IfSome found (λ cert. cert.version ≡ flat_version task.now)) }
 {
     match settled(alloc, task)? {
-        Some(found) => drawn(alloc, found),
+        Some(found) => drawn(alloc, task, found),
         None => Ok(None),
     }
 }
 
 /// A certificate in its short form, if the checker accepts that; else as it is, if it accepts it so.
 fn preferred(alloc: Global, task: &Task, cert: Cert) -> Result<Option<Cert>, Memory>
-    requires version { cert.version ≡ Two }
+    requires version { cert.version ≡ flat_version task.now }
     ensures accepted { IfOk result (λ found. IfSome found (λ given. IsAccepted task.now given)) }
-    ensures version { IfOk result (λ found. IfSome found (λ given. given.version ≡ Two)) }
+    ensures version { IfOk result (λ found. IfSome found (λ given. given.version ≡ flat_version task.now)) }
     ensures short { IfOk result (λ found. IfSome found (λ given.
         IsAccepted task.now (short_form task.now given) → given ≡ short_form task.now given)) }
     ensures none { result ≡ Ok None → IsAccepted task.now cert → ⊥ }
@@ -115,7 +117,7 @@ fn preferred(alloc: Global, task: &Task, cert: Cert) -> Result<Option<Cert>, Mem
 /// The flat certificate of a task, in the form that is preferred, if it has one that the checker accepts.
 fn flat_preferred(alloc: Global, task: &Task) -> Result<Option<Cert>, Memory>
     ensures accepted { IfOk result (λ found. IfSome found (λ cert. IsAccepted task.now cert)) }
-    ensures version { IfOk result (λ found. IfSome found (λ cert. cert.version ≡ Two)) }
+    ensures version { IfOk result (λ found. IfSome found (λ cert. cert.version ≡ flat_version task.now)) }
     ensures short { IfOk result (λ found. IfSome found (λ cert.
         IsAccepted task.now (short_form task.now cert) → cert ≡ short_form task.now cert)) }
     ensures flat { result ≡ Ok None → (certificate : Certificate) → flat task.now ≡ Some certificate → IsAccepted task.now certificate → ⊥ }
@@ -146,7 +148,7 @@ fn proposed_short(alloc: Global, task: &Task) -> Result<Option<Cert>, Memory>
 /// What the search finds for a task, whatever is marked: what it comes to point by point, or else the flat certificate.
 fn searched(alloc: Global, task: &Task) -> Result<Option<Cert>, Memory>
     ensures accepted { IfOk result (λ found. IfSome found (λ cert. IsAccepted task.now cert)) }
-    ensures version { IfOk result (λ found. IfSome found (λ cert. cert.version ≡ Two)) }
+    ensures version { IfOk result (λ found. IfSome found (λ cert. cert.version ≡ flat_version task.now)) }
     ensures short { IfOk result (λ found. IfSome found (λ cert.
         IsAccepted task.now (short_form task.now cert) → cert ≡ short_form task.now cert)) }
     ensures flat { result ≡ Ok None → (certificate : Certificate) → flat task.now ≡ Some certificate → IsAccepted task.now certificate → ⊥ }
@@ -157,13 +159,13 @@ fn searched(alloc: Global, task: &Task) -> Result<Option<Cert>, Memory>
     }
 }
 
-/// A certificate of a task, of version 2, that the checker accepts, if the search finds one: that of what it finds point by
-/// point, or the flat one. Where its short form is accepted, with bounds at named points alone, it is given in that form. Where
+/// A certificate of a task, of version 2, or of version 4 where the task asks for further rights, that the checker accepts, if the
+/// search finds one: that of what it finds point by point, or the flat one. Where its short form is accepted, with bounds at named points alone, it is given in that form. Where
 /// the flat certificate is accepted, it finds one. Of a task with a marked program it finds none. `Memory` may come in place of any
 /// other answer. It always ends. Who asks learns that the task is valid. (own)
 pub fn search(alloc: Global, task: &Task) -> Result<Option<Cert>, Memory>
     ensures accepted { IfOk result (λ found. IfSome found (λ cert. IsAccepted task.now cert)) }
-    ensures version { IfOk result (λ found. IfSome found (λ cert. cert.version ≡ Two)) }
+    ensures version { IfOk result (λ found. IfSome found (λ cert. cert.version ≡ flat_version task.now)) }
     ensures short { IfOk result (λ found. IfSome found (λ cert.
         IsAccepted task.now (short_form task.now cert) → cert ≡ short_form task.now cert)) }
     ensures flat { result ≡ Ok None → (certificate : Certificate) → flat task.now ≡ Some certificate → IsAccepted task.now certificate → ⊥ }

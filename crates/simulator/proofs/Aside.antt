@@ -4,13 +4,13 @@ use Rattle.std.specs.Prelude.{◌&&◌, ◌==◌, ◌+◌, ◌-◌, not, slice_s
 use Rattle.std.specs.List.{slice_get}
 use Rattle.std.proofs.Math.ListN.{get_or, length-set}
 use Rattle.std.proofs.lemmas.List.{set-set}
-use Rattle.rights.specs.Errors.{Errno, EAGAIN, ENFILE, EMFILE}
+use Rattle.rights.specs.Errors.{EAGAIN, ENFILE, EMFILE}
 use Rattle.rights.specs.Errors as errors
 use Rattle.rights.specs.Limits.{most_descriptors, most_processes}
 use Rattle.process.specs.State.{Deed, ProcessState, Walking, ended, forked, left_by}
 use Rattle.instruction_set.specs.Programs.{Instruction, Set, Mov, Add, In, Jmp, Jeq, Jlt, Halt, Invoke, Syscall, Open, Openat, Read, Write, Sendfd, Recvfd, Lseek, Ftruncate, Fsync, Fstat}
 use Rattle.instruction_set.specs.Programs.{Fcntl_getfl, Fcntl_setfl, Fstatat, Stat, Mkdirat, Mkdir, Unlinkat, Unlink, Renameat, Dup, Close, Cap_rights_limit, Cap_fcntls_limit, Cap_enter}
-use Rattle.instruction_set.specs.Programs.{Cap_getmode, Socketpair, Fork}
+use Rattle.instruction_set.specs.Programs.{Cap_getmode, Socketpair, Fork, Use}
 use Rattle.fd_table.specs.Descriptions.{PairClass, Made_at, Made_by}
 use Rattle.kernel.specs.World.{World, Choice}
 use Rattle.kernel.specs.Answers.{Event, TableChange, Same_table, Set_entry, Clear_entry, New_file, New_pair, New_process, Change, Answer, Fails, Waits, Gives, Walks, at_number, same, unless}
@@ -111,6 +111,7 @@ module _ (w : World) (e : Event) (choice : Choice) (s : ProcessState) (deed : De
 
       pairs : (o : Option ℕ) → at_first (own_class (set_aside s)) o ≡ at_first (own_class s) o
       pairs o = ap (λ class. at_first class o) class_same
+  answer_same (Use x right) = refl
   answer_same Fork =
       ap (λ n. unless (nat_lt n most_processes) EAGAIN errors.Full (unless (not e.refuse) EAGAIN errors.Refused (Gives n (record same { table = New_process }) []))) count
 

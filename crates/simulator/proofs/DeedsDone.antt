@@ -206,6 +206,7 @@ valid_lookups programs.Cap_enter valid = refl
 valid_lookups programs.Cap_getmode valid = refl
 valid_lookups programs.Socketpair valid = refl
 valid_lookups programs.Fork valid = refl
+valid_lookups (programs.Use a b) valid = refl
 
 pub has_paths : (i : Instruction) → calls_with_valid_paths i ≡ true → HasPaths (call_in (Some i))
 has_paths (Set r value) valid = tt

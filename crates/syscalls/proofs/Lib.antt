@@ -14,3 +14,4 @@ pub mod Removing
 pub mod Renaming
 pub mod Calling
 pub mod Settling
+pub mod Using

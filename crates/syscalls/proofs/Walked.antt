@@ -206,3 +206,4 @@ pathless_looks_nothing_up programs.Cap_enter is = refl
 pathless_looks_nothing_up programs.Cap_getmode is = refl
 pathless_looks_nothing_up programs.Socketpair is = refl
 pathless_looks_nothing_up programs.Fork is = refl
+pathless_looks_nothing_up (programs.Use a b) is = refl

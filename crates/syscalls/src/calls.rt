@@ -50,6 +50,7 @@ impl<T: Tree> Kernel<'_, T> {
             Syscall::CapGetmode => Ok(self.get_mode()),
             Syscall::Socketpair => self.make_pair(),
             Syscall::Fork => self.fork(),
+            Syscall::Use { descriptor, right } => self.use_right(*descriptor, *right),
             Syscall::Open { .. } | Syscall::Stat { .. } | Syscall::Mkdir { .. } => unreachable!(),
             Syscall::Openat { .. } | Syscall::Fstatat { .. } => unreachable!(),
             Syscall::Mkdirat { .. } | Syscall::Unlinkat { .. } => unreachable!(),

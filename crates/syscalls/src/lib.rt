@@ -15,6 +15,7 @@ mod operands;
 pub mod outcomes;
 mod processes;
 mod sockets;
+mod uses;
 pub mod world;
 
 pub use effects::Effects;

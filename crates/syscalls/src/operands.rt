@@ -217,7 +217,17 @@ impl<T: Tree> Kernel<'_, T> {
         ensures target { IfOk result (λ reached. IsTarget reached.target ((open_files self.now.files.now).objects reached.held.description)) }
         ensures ready { IfOk result (IsReached (T.nodes self.now.tree.now) (open_files self.now.files.now)) }
     {
-        let held = self.through(operand, call)?;
+        self.reach_through(operand, need_of(call))
+    }
+
+    /// What the descriptor of an operand is of, through these rights.
+    pub fn reach_through(&self, operand: Operand, need: Rights) -> Result<Reached, Refusal>
+        requires { IsReadyAt T.nodes self.now }
+        ensures passes { Passes reached_seen (answers.through need.0 (held_at self.now operand)) result }
+        ensures target { IfOk result (λ reached. IsTarget reached.target ((open_files self.now.files.now).objects reached.held.description)) }
+        ensures ready { IfOk result (IsReached (T.nodes self.now.tree.now) (open_files self.now.files.now)) }
+    {
+        let held = self.through_rights(operand, need)?;
         let target = self.target_of(held.description);
         Ok(Reached { held, target })
     }

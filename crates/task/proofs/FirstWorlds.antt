@@ -14,7 +14,7 @@ use Rattle.file_tree.specs.Nodes.{Node}
 use Rattle.kernel.specs.Walks.{IsWalkerIfMade}
 use Rattle.kernel.specs.WellFormed.{IsBegun, IsCode, IsPoint, IsProcessIfMade, HasNone, FitsRegister, IsWorld}
 use Rattle.task.specs.Plans.{NamedProgram, Start, Plan, code_in, programs_of_plan}
-use Rattle.task.specs.Limits.{are_grants, is_program_named, are_named_apart, all_apart, are_programs, are_descriptors, is_start, are_starts, is_tree, is_plan}
+use Rattle.task.specs.Limits.{are_grants, is_program_named, are_named_apart, all_apart, are_programs, are_descriptors, is_start, are_starts, is_tree, has_valid_parts, is_in_language, is_plan}
 use Rattle.task.specs.Begins.{first_files, first_process, first_world}
 use Rattle.task.specs.Laws.{FirstWorldsAreWellFormed}
 use Rattle.task.proofs.FirstTrees.{tested_tree}
@@ -28,12 +28,14 @@ pub record Checked (plan : Plan) : Type 0 where
   pub some : 1 ≤ length plan.starts
   pub few : length plan.starts ≤ most_processes
   pub starts : list_all (is_start plan.nodes (length plan.programs)) plan.starts ≡ true
+  pub spoken : list_all (is_in_language plan.wide) plan.programs ≡ true
 
 pub checked : (plan : Plan) → is_plan plan ≡ true → Checked plan
 checked plan good =
-    let three = both_left _ (are_starts plan.nodes (length plan.programs) plan.starts) good in
+    let parts = both_left (has_valid_parts plan) (list_all (is_in_language plan.wide) plan.programs) good in
+    let three = both_left _ (are_starts plan.nodes (length plan.programs) plan.starts) parts in
     let two = both_left _ (are_programs plan.programs) three in
-    let first = both_right (is_tree plan.nodes && are_grants plan.nodes plan.grants && are_programs plan.programs) _ good in
+    let first = both_right (is_tree plan.nodes && are_grants plan.nodes plan.grants && are_programs plan.programs) _ parts in
     let count = both_left _ (list_all (is_start plan.nodes (length plan.programs)) plan.starts) first in
     record {
       tree = both_left _ (are_grants plan.nodes plan.grants) two;
@@ -42,6 +44,7 @@ checked plan good =
       some = leb-true _ _ (both_left _ (nat_le (length plan.starts) most_processes) count);
       few = leb-true _ _ (both_right (nat_le 1 (length plan.starts)) _ count);
       starts = both_right (nat_le 1 (length plan.starts) && nat_le (length plan.starts) most_processes) _ first;
+      spoken = both_right (has_valid_parts plan) _ good;
     }
 
 -- the programs of a task

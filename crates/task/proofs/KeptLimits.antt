@@ -10,6 +10,7 @@ use Rattle.rights.proofs.Tests.{both_left, both_right, either_one, not_true}
 use Rattle.file_tree.specs.Places.{begins, above}
 use Rattle.file_tree.specs.Nodes.{Kind, Dir, Link, Node, node, is_dir, is_link, stands_at}
 use Rattle.file_tree.specs.WellFormed.{has_directory, is_within_limits}
+use Rattle.instruction_set.specs.Languages.{are_spoken}
 use Rattle.instruction_set.specs.Programs.{is_program}
 use Rattle.texts.specs.Bytes.{is_lower, is_digit}
 use Rattle.texts.specs.Names.{is_name, is_name_byte}
@@ -17,7 +18,7 @@ use Rattle.fd_table.specs.Descriptions.{Access}
 use Rattle.task.specs.Plans.{Grant, NamedProgram, FirstObject, On_node, On_end, FirstDescriptor, Start, Plan, code_in}
 use Rattle.rights.specs.Limits.{most_grants, most_programs}
 use Rattle.task.specs.Limits.{can_follow, are_made, is_tree, is_grant, are_grants_apart, are_grants, is_program_named, are_named_apart, are_programs, all_apart, is_object}
-use Rattle.task.specs.Limits.{is_descriptor, are_numbered_apart, are_descriptors, is_start, is_plan}
+use Rattle.task.specs.Limits.{is_descriptor, are_numbered_apart, are_descriptors, is_start, is_in_language, is_plan}
 use Rattle.task.specs.Policies.{grant_named}
 use Rattle.task.specs.KeptLimits.{IsLetter, IsNameByte, IsShortName, CanBeOpened, IsThere, IsUsable, KeepsGrants, KeepsPrograms, KeepsStarts, PlansKeepLimits, TreesAreMadeInOrder}
 use Rattle.task.proofs.FirstTrees.{tested_tree, made_in_order}
@@ -154,8 +155,13 @@ keeps_grants plan test =
 abbrev OtherNames : NamedProgram → NamedProgram → Type 0
 OtherNames p q = p.name ≢ q.name
 
-keeps_programs : (plan : Plan) → are_programs plan.programs ≡ true → KeepsPrograms plan
-keeps_programs plan test =
+spoken_code : (wide : Bool) (programs : List NamedProgram) (n : ℕ) → list_all (is_in_language wide) programs ≡ true → are_spoken wide (code_in (slice_get programs n)) ≡ true
+spoken_code wide [] n all = refl
+spoken_code wide (p ∷ programs) zero all = both_left (is_in_language wide p) (list_all (is_in_language wide) programs) all
+spoken_code wide (p ∷ programs) (suc n) all = spoken_code wide programs n (both_right (is_in_language wide p) (list_all (is_in_language wide) programs) all)
+
+keeps_programs : (plan : Plan) → are_programs plan.programs ≡ true → list_all (is_in_language plan.wide) plan.programs ≡ true → KeepsPrograms plan
+keeps_programs plan test spoken =
     let two = both_left _ (all_apart are_named_apart plan.programs) test in
     let all = both_right (nat_le (length plan.programs) most_programs) _ two in
     let apart = both_right (nat_le (length plan.programs) most_programs && list_all is_program_named plan.programs) _ test in
@@ -169,6 +175,7 @@ keeps_programs plan test =
           (apart_at are_named_apart OtherNames (λ p q test. other_names p.name q.name (not_true _ test))
           (λ p q test is. other_names p.name q.name (not_true _ test) (sym is)) plan.programs apart i j p q at_p at_q)
           (λ other. other same);
+      spoken = λ n. spoken_code plan.wide plan.programs n spoken;
     }
 
 -- first processes
@@ -252,7 +259,7 @@ plans_keep_limits plan good =
       tree = tested_tree plan.nodes facts.tree;
       linked = all_linked plan.nodes facts.tree;
       grants = keeps_grants plan facts.grants;
-      programs = keeps_programs plan facts.programs;
+      programs = keeps_programs plan facts.programs facts.spoken;
       starts = keeps_starts plan good;
     }
 

@@ -10,7 +10,7 @@ use Rattle.kernel.specs.Hostile.{Act, Own}
 use Rattle.kernel.specs.Steps.{Programs, step}
 use Rattle.kernel.proofs.Marks.{AreMarkedAs, IsMarkedAs, step_marked}
 use Rattle.task.specs.Begins.{first_process, first_world}
-use Rattle.task.specs.Confined.{Confined, IsTrusted, TrustedTasksAreSandboxed}
+use Rattle.task.specs.Confined.{AreSpoken, Confined, IsTrusted, TrustedTasksAreSandboxed}
 use Rattle.task.specs.Plans.{Grant, NamedProgram, Start, marked_in, programs_of_plan}
 use Rattle.task.specs.Sandboxed.{Sandboxed}
 
@@ -30,6 +30,10 @@ abbrev own_acts : List Event → List (Event × Act)
 own_acts [] = []
 own_acts (e ∷ events) = (e, Own) ∷ own_acts events
 
+own_are_spoken : (wide : Bool) (events : List Event) → AreSpoken wide (own_acts events)
+own_are_spoken wide [] = tt
+own_are_spoken wide (e ∷ events) = (tt, own_are_spoken wide events)
+
 module _ (programs : Programs) (grants : List Grant) (marks : ℕ → Bool) (none : (n : ℕ) → marks n ≡ false) where
   is_trusted : (o : Option ProcessState) → IsMarkedAs marks o → IsTrusted o
   is_trusted None is = tt
@@ -47,4 +51,4 @@ pub trusted_tasks_are_sandboxed : TrustedTasksAreSandboxed
 unfolding first_world
 trusted_tasks_are_sandboxed plan valid none confined events bytes =
     runs (programs_of_plan plan) plan.grants (λ n. marked_in (slice_get plan.programs n)) (λ n. none_marked_in plan.programs n none) (first_world plan) events
-    (first_marked plan.programs plan.starts) bytes (confined (own_acts events))
+    (first_marked plan.programs plan.starts) bytes (confined (own_acts events) (own_are_spoken plan.wide events))

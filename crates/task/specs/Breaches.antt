@@ -39,6 +39,7 @@ entering operations rights node writable call = record {
             ∷ [];
       }
       ∷ [];
+  wide = false;
 }
 
 -- reads without the right to

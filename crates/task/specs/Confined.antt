@@ -1,13 +1,13 @@
 -- When a task is confined: whatever processes of its untrusted programs do in capability mode, its processes stay inside the policy.
 -- (own, after capsicum(4), rights(4), cap_rights_limit(2) and cap_fcntls_limit(2))
-use Rattle.std.specs.Prelude.{◌≡◌, false, true, List, [], ◌∷◌, Option, Some, None, IfSome}
+use Rattle.std.specs.Prelude.{◌≡◌, Bool, false, true, List, [], ◌∷◌, Option, Some, None, IfSome}
 use Rattle.std.specs.List.{slice_get}
 use Rattle.process.specs.State.{ProcessState}
 use Rattle.kernel.specs.World.{World, Choice, IsFresh}
 use Rattle.kernel.specs.Answers.{Event, IsEvent}
 use Rattle.kernel.specs.Steps.{Programs, Acted, Stepped}
 use Rattle.kernel.specs.Gains.{GainsNothing}
-use Rattle.kernel.specs.Hostile.{Act, IsAct, caller_as, step_as}
+use Rattle.kernel.specs.Hostile.{Act, IsAct, IsSpoken, caller_as, step_as}
 use Rattle.task.specs.Plans.{Grant, Plan, none_marked, programs_of_plan}
 use Rattle.task.specs.Limits.{is_plan}
 use Rattle.task.specs.Begins.{first_world}
@@ -38,9 +38,15 @@ Confined programs grants w ((e, act) ∷ events) =
     → IsContained programs grants w e act (step_as programs w e act choice)
     × Confined programs grants (step_as programs w e act choice).world events
 
+-- what is done is of the task's own language
+abbrev pub AreSpoken : Bool → List (Event × Act) → Type 0
+AreSpoken wide [] = Unit {0}
+AreSpoken wide ((e, act) ∷ events) = IsSpoken wide act × AreSpoken wide events
+
 -- Every run of the task is confined, for every list of events and of what is done at them.
 abbrev pub IsConfined : Plan → Type 0
-IsConfined plan = (events : List (Event × Act)) → Confined (programs_of_plan plan) plan.grants (first_world plan) events
+IsConfined plan =
+    (events : List (Event × Act)) → AreSpoken plan.wide events → Confined (programs_of_plan plan) plan.grants (first_world plan) events
 
 -- Where all programs are trusted, that is to be sandboxed.
 abbrev pub TrustedTasksAreSandboxed : Type 0

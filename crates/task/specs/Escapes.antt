@@ -1,7 +1,7 @@
 -- Tasks that aren't confined, each for another reason.
 use Rattle.std.specs.Prelude.{◌+◌, ℕ, true, false, List, [], ◌∷◌, codes}
 use Rattle.rights.specs.Operations.{Look, Read as Reads}
-use Rattle.rights.specs.Sets.{all_rights, all_commands, lookup_right, mkdirat_right, seek_right}
+use Rattle.rights.specs.Sets.{all_rights, all_commands, further_right, lookup_right, mkdirat_right, seek_right}
 use Rattle.instruction_set.specs.Programs.{Instruction, Halt, Invoke, Read, Recvfd, Sendfd, Number}
 use Rattle.task.specs.Breaches.{small_tree}
 use Rattle.task.specs.Plans.{FirstDescriptor, FirstObject, On_node, On_end, Plan, unmarked}
@@ -25,11 +25,16 @@ taken_over code own others = record {
       record { program = 0; mode = false; descriptors = starting_with_rights 0 (On_end 0 0) all_rights ∷ own }
       ∷ record { program = 1; mode = true; descriptors = starting_with_rights 0 (On_end 0 1) all_rights ∷ others }
       ∷ [];
+  wide = false;
 }
 
 -- the child holds a directory with a right too many, and makes another one there
 abbrev pub making_plan : Plan
 making_plan = taken_over (Halt ∷ []) [] (starting_with_rights 1 (open_directory 1) (lookup_right + mkdirat_right) ∷ [])
+
+-- the task asks for further rights, and the child holds a directory whose mode it may set
+abbrev pub using_plan : Plan
+using_plan = record (taken_over (Halt ∷ []) [] (starting_with_rights 1 (open_directory 1) (further_right 7) ∷ [])) { wide = true }
 
 -- `main` reads through what the child sends it, which can't be read through
 abbrev pub trusting_plan : Plan
@@ -41,5 +46,6 @@ letting_plan = taken_over (Invoke (Sendfd (Number 0) (Number 1) (Number 0)) 1 �
 
 pub record SomeAreNotConfined : Type 0 where
   pub right_too_many : IsConfined making_plan → ⊥
+  pub further_right_too_many : IsConfined using_plan → ⊥
   pub trusted_end : IsConfined trusting_plan → ⊥
   pub channel_too_wide : IsConfined letting_plan → ⊥

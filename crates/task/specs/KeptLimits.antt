@@ -7,6 +7,7 @@ use Rattle.file_tree.specs.Places.{begins, is_file_name}
 use Rattle.file_tree.specs.Nodes.{Dir, Link, Node, node}
 use Rattle.file_tree.specs.Refusals.{created, create_fault}
 use Rattle.file_tree.specs.WellFormed.{IsTree, has_directory, is_content}
+use Rattle.instruction_set.specs.Languages.{are_spoken}
 use Rattle.instruction_set.specs.Programs.{is_program}
 use Rattle.fd_table.specs.Descriptions.{Access}
 use Rattle.task.specs.Plans.{Grant, NamedProgram, FirstObject, On_node, On_end, FirstDescriptor, Start, Plan, programs_of_plan}
@@ -64,6 +65,7 @@ pub record KeepsPrograms (plan : Plan) : Type 0 where
   pub names :
       (i j : ℕ) (p q : NamedProgram) → slice_get plan.programs i ≡ Some p → slice_get plan.programs j ≡ Some q
       → p.name ≡ q.name → i ≡ j
+  pub spoken : (i : ℕ) → are_spoken plan.wide (programs_of_plan plan i) ≡ true
 
 pub record KeepsStarts (plan : Plan) : Type 0 where
   pub some : 1 ≤ length plan.starts

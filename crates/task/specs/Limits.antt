@@ -8,6 +8,7 @@ use Rattle.file_tree.specs.Places.{begins, above}
 use Rattle.file_tree.specs.Nodes.{Node, node, is_dir, is_link, stands_at}
 use Rattle.rights.specs.Limits.{most_nodes, most_processes, most_programs, most_grants, most_descriptors, most_pairs}
 use Rattle.file_tree.specs.WellFormed.{has_directory, is_within_limits}
+use Rattle.instruction_set.specs.Languages.{are_spoken}
 use Rattle.instruction_set.specs.Programs.{is_program}
 use Rattle.fd_table.specs.Descriptions.{Access}
 use Rattle.task.specs.Plans.{Grant, NamedProgram, FirstObject, On_node, On_end, FirstDescriptor, Start, Plan}
@@ -81,7 +82,14 @@ abbrev pub are_starts : List Node → ℕ → List Start → Bool
 are_starts tree programs starts =
     nat_le 1 (length starts) && nat_le (length starts) most_processes && list_all (is_start tree programs) starts
 
-abbrev pub is_plan : Plan → Bool
-is_plan plan =
+abbrev pub has_valid_parts : Plan → Bool
+has_valid_parts plan =
     is_tree plan.nodes && are_grants plan.nodes plan.grants && are_programs plan.programs
     && are_starts plan.nodes (length plan.programs) plan.starts
+
+-- Each program is of the task's own language.
+abbrev pub is_in_language : Bool → NamedProgram → Bool
+is_in_language wide p = are_spoken wide p.code
+
+abbrev pub is_plan : Plan → Bool
+is_plan plan = has_valid_parts plan && list_all (is_in_language plan.wide) plan.programs

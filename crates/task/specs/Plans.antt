@@ -49,9 +49,13 @@ pub record Plan : Type 0 where
   pub grants : List Grant
   pub programs : List NamedProgram
   pub starts : List Start
+  pub wide : Bool  -- it asks for further rights
+
+abbrev pub plan_in : Bool → List Node → List Grant → List NamedProgram → List Start → Plan
+plan_in wide nodes grants programs starts = record { nodes = nodes; grants = grants; programs = programs; starts = starts; wide = wide }
 
 abbrev pub plan_with : List Node → List Grant → List NamedProgram → List Start → Plan
-plan_with nodes grants programs starts = record { nodes = nodes; grants = grants; programs = programs; starts = starts }
+plan_with nodes grants programs starts = plan_in false nodes grants programs starts
 
 -- the code of a program by its number; where a task has none, there is the empty list
 abbrev pub code_in : Option NamedProgram → List Instruction

@@ -16,25 +16,26 @@ pub struct Task {
     grants: Vec<Grant>,
     programs: Vec<NamedProgram>,
     starts: Vec<Start>,
+    further_rights: bool,
 }
 
 impl Model for Task {
     ghost use Rattle.std.specs.Prelude.{◌≡◌, true};
-    ghost use Rattle.task.specs.Plans.{Plan, plan_with};
+    ghost use Rattle.task.specs.Plans.{Plan, plan_in};
     ghost use Rattle.task.specs.Limits.{is_plan};
 
     ghost Value = { Plan };
 
     ghost use Rattle.task.specs.Views.{grants_of, nodes_of, programs_of, starts_of};
 
-    ghost view = { λ t. plan_with (nodes_of t.nodes.items) (grants_of t.grants.items) (programs_of t.programs.items) (starts_of t.starts.items) };
+    ghost view = { λ t. plan_in t.further_rights (nodes_of t.nodes.items) (grants_of t.grants.items) (programs_of t.programs.items) (starts_of t.starts.items) };
 
-    ghost invariant = { λ t. is_plan (plan_with (nodes_of t.nodes.items) (grants_of t.grants.items) (programs_of t.programs.items) (starts_of t.starts.items)) ≡ true };
+    ghost invariant = { λ t. is_plan (plan_in t.further_rights (nodes_of t.nodes.items) (grants_of t.grants.items) (programs_of t.programs.items) (starts_of t.starts.items)) ≡ true };
 }
 
 impl Task {
     ghost use Rattle.std.specs.Prelude.{◌≡◌, true};
-    ghost use Rattle.task.specs.Plans.{plan_with, program_name};
+    ghost use Rattle.task.specs.Plans.{plan_in, program_name};
     ghost use Rattle.task.specs.Limits.{is_plan};
     ghost use Rattle.task.specs.Views.{grants_of, nodes_of, programs_of, starts_of};
 
@@ -44,10 +45,11 @@ impl Task {
         grants: Vec<Grant>,
         programs: Vec<NamedProgram>,
         starts: Vec<Start>,
+        further_rights: bool,
     ) -> Task
-        requires { is_plan (plan_with (nodes_of nodes.items) (grants_of grants.items)
+        requires { is_plan (plan_in further_rights (nodes_of nodes.items) (grants_of grants.items)
             (programs_of programs.items) (starts_of starts.items)) ≡ true }
-        ensures { result ≡ plan_with (nodes_of nodes.items) (grants_of grants.items)
+        ensures { result ≡ plan_in further_rights (nodes_of nodes.items) (grants_of grants.items)
             (programs_of programs.items) (starts_of starts.items) }
     {
         Task {
@@ -55,6 +57,7 @@ impl Task {
             grants,
             programs,
             starts,
+            further_rights,
         }
     }
 
@@ -97,5 +100,12 @@ impl Task {
         ensures valid { is_plan self.now ≡ true }
     {
         &self.starts
+    }
+
+    /// Whether it asks for further rights: its descriptors and limits may name them, and its programs may `use` them.
+    pub fn further_rights(&self) -> bool
+        ensures { result ≡ self.now.wide }
+    {
+        self.further_rights
     }
 }

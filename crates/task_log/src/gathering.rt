@@ -97,7 +97,7 @@ pub fn log_of_task<'a>(alloc: Global, found: &Found<'a>) -> Result<Log<'a>, Allo
 {
     let mut gathered = Gathered {
         alloc,
-        rules: known_rules(alloc)?,
+        rules: known_rules(alloc, found.scene.task.further_rights())?,
         findings: Vec::new(alloc),
     };
     gathered.add_broken(&found.scene, found.broken)?;

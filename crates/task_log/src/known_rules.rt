@@ -19,12 +19,12 @@ pub const TASK_TEXT: Rule<'static> = Rule {
 };
 
 /// A rule of the checker.
-fn rule_of(rule: checker::Rule) -> Rule<'static> {
+fn rule_of(wide: bool, rule: checker::Rule) -> Rule<'static> {
     Rule {
         id: RuleId::Numbered(rule.number()),
         level: Level::Error,
         title: rule_title(rule),
-        says: rule_words(rule),
+        says: rule_words(wide, rule),
         help: rule_advice(rule),
     }
 }
@@ -54,11 +54,11 @@ pub(crate) fn rule_of_topic(topic: Topic) -> Rule<'static> {
     }
 }
 
-/// The rules of the checker, and all that is remarked.
-pub(crate) fn known_rules(alloc: Global) -> Result<Vec<Rule<'static>>, AllocError> {
+/// The rules of the checker, as they are said of a task that asks for further rights or of another, and all that is remarked.
+pub(crate) fn known_rules(alloc: Global, wide: bool) -> Result<Vec<Rule<'static>>, AllocError> {
     let mut rules = Vec::new(alloc);
     for rule in &RULES {
-        rules.push(rule_of(*rule))?;
+        rules.push(rule_of(wide, *rule))?;
     }
     for topic in &REMARK_TOPICS {
         rules.push(rule_of_topic(*topic))?;

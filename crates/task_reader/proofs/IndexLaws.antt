@@ -1,7 +1,7 @@
 -- An index stays one as nodes are added, and the path of the directory above.
-use Rattle.std.proofs.Common.{◌≡◌, ◌≢◌, ◌<◌, ◌≤◌, ◌-◌, ◌+◌, inl, inr, ℕ, suc, List, [], ◌∷◌, ◌++◌}
-use Rattle.std.proofs.Common.{Option, Some, None, option_map, Bool, true, false, cond, length, take, drop, take-append-drop, refl, ap}
-use Rattle.std.proofs.Common.{sym, subst, ◌∙◌, append_assoc, append-nil, arith}
+use Rattle.std.proofs.Common.{◌≡◌, ◌≢◌, ◌<◌, ◌-◌, ◌+◌, inl, inr, ℕ, suc, List, [], ◌∷◌, ◌++◌}
+use Rattle.std.proofs.Common.{Option, Some, None, option_map, Bool, true, false, cond, length, drop, take-append-drop, refl, ap}
+use Rattle.std.proofs.Common.{sym, subst, ◌∙◌, arith}
 use Rattle.std.specs.Prelude.{◌==◌, ◌&&◌, ◌||◌, not, is_some, option_and_then, if◌then◌else◌}
 use Rattle.std.specs.Borrow.{Bor}
 use Rattle.std.specs.List.{list_all, list_any}
@@ -11,13 +11,12 @@ use Rattle.rights.proofs.Tests.{both_left, both_right}
 use Rattle.std.specs.Map.{update}
 use Rattle.std.proofs.lemmas.Slice.Eq.{bytes_eq-Decides}
 use Rattle.rights.proofs.Words.{same_bytes}
-use Rattle.std.proofs.Math.ListN.{get_or}
-use Rattle.std.proofs.lemmas.List.{get_or_append_left, length-append}
-use Rattle.std.proofs.Math.Seq.{get_or-append_seam, take-append_seam}
+use Rattle.std.proofs.lemmas.List.{get_or_append_left}
+use Rattle.std.proofs.Math.Seq.{get_or-append_seam}
 use Rattle.std.proofs.lemmas.List.Folds.{list_any-append}
 use Rattle.file_tree.specs.Refusals.{new_tree}
 use Rattle.file_tree.specs.Nodes.{Node, Dir, nowhere, node, node_at, node_from, is_dir, stands_at}
-use Rattle.file_tree.specs.Places.{same_place, place_text, above, at_name, is_path_name}
+use Rattle.file_tree.specs.Places.{same_place, place_text, above, is_path_name}
 use Rattle.file_tree.specs.WellFormed.{is_directory_at, has_directory}
 use Rattle.file_tree.proofs.PlaceLaws.{other_place}
 use Rattle.file_tree.proofs.NodeLaws.{linked_there, node_at_found, node_at_none, stands_is, stands_from, any_at}
@@ -26,7 +25,6 @@ use Rattle.task_reader.specs.IndexViews.{number_in, is_directory, IsIndex, IsPat
 use Rattle.task_reader.specs.Paths.{path_names, names_behind, place_of}
 use Rattle.task_reader.specs.Reading.{can_grant, can_stand, granted_place, node_behind, node_made, node_placed, number_of_path}
 use Rattle.task_reader.specs.Written.{WrittenNode}
-use Rattle.task_reader.proofs.Stages.{ap2}
 use Rattle.task_reader.proofs.PathTexts.{path-text, text-path}
 use Rattle.task_reader.proofs.WrittenLaws.{some-equal, and_then-some, if-some, map-some}
 use Rattle.std.proofs.lemmas.Bool.{cases_Bool}

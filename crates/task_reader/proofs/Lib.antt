@@ -13,3 +13,4 @@ pub mod EachItem
 pub mod OneByOne
 pub mod Rows
 pub mod PairRows
+pub mod WideRows

@@ -50,17 +50,17 @@ one-more : (so_far : List NamedProgram) (p : NamedProgram) (rest : Result (List 
 one-more so_far p (Ok rest) = ap Ok (sym (append_assoc so_far (p ∷ []) rest))
 one-more so_far p (Err mistake) = refl
 
-left-more : (written : List ProgramCode) (i : ℕ) (d : ProgramCode) → i < length written →
-    all_assembled (programs_seen (drop i written)) ≡ all_assembled (program_seen (get_or written i d) ∷ programs_seen (drop (i + 1) written))
-left-more written i d within = ap (λ ps. all_assembled (programs_seen ps)) (drop_more written i d within)
+left-more : (wide : Bool) (written : List ProgramCode) (i : ℕ) (d : ProgramCode) → i < length written →
+    all_assembled wide (programs_seen (drop i written)) ≡ all_assembled wide (program_seen (get_or written i d) ∷ programs_seen (drop (i + 1) written))
+left-more wide written i d within = ap (λ ps. all_assembled wide (programs_seen ps)) (drop_more written i d within)
 
 pub assembled-more :
-    (written : List ProgramCode) (i : ℕ) (d : ProgramCode) (so_far : List NamedProgram) (p : NamedProgram) → i < length written
-    → assembled (program_seen (get_or written i d)) ≡ Ok p
-    → after so_far (all_assembled (programs_seen (drop i written))) ≡ after (so_far ++ p ∷ []) (all_assembled (programs_seen (drop (i + 1) written)))
-assembled-more written i d so_far p within is =
-    let rest = all_assembled (programs_seen (drop (i + 1) written)) in
-    ap (after so_far) (left-more written i d within ∙ ap (λ r. r >>= (λ first. rest >>= (λ ps. Ok (first ∷ ps)))) is) ∙ one-more so_far p rest
+    (wide : Bool) (written : List ProgramCode) (i : ℕ) (d : ProgramCode) (so_far : List NamedProgram) (p : NamedProgram) → i < length written
+    → assembled wide (program_seen (get_or written i d)) ≡ Ok p
+    → after so_far (all_assembled wide (programs_seen (drop i written))) ≡ after (so_far ++ p ∷ []) (all_assembled wide (programs_seen (drop (i + 1) written)))
+assembled-more wide written i d so_far p within is =
+    let rest = all_assembled wide (programs_seen (drop (i + 1) written)) in
+    ap (after so_far) (left-more wide written i d within ∙ ap (λ r. r >>= (λ first. rest >>= (λ ps. Ok (first ∷ ps)))) is) ∙ one-more so_far p rest
 
 after-program : (name : List ℕ) (why : Option Fault) (so_far : List NamedProgram) (r : Result (List NamedProgram) Mistake) → IsProgramFault name why r → IsProgramFault name why (after so_far r)
 after-program name None so_far r is = is
@@ -77,20 +77,20 @@ after-fault code.Limit so_far r is = rw is refl
 after-fault code.Memory so_far r is = is
 
 pub assembled-fails :
-    (e : TaskFault) (written : List ProgramCode) (i : ℕ) (d : ProgramCode) (so_far : List NamedProgram) → i < length written
-    → FaultIs e (assembled (program_seen (get_or written i d))) → FaultIs e (after so_far (all_assembled (programs_seen (drop i written))))
-assembled-fails e written i d so_far within is =
-    after-fault e so_far _ (rw (left-more written i d within) (fault-passes e (assembled (program_seen (get_or written i d))) _ is))
+    (wide : Bool) (e : TaskFault) (written : List ProgramCode) (i : ℕ) (d : ProgramCode) (so_far : List NamedProgram) → i < length written
+    → FaultIs e (assembled wide (program_seen (get_or written i d))) → FaultIs e (after so_far (all_assembled wide (programs_seen (drop i written))))
+assembled-fails wide e written i d so_far within is =
+    after-fault e so_far _ (rw (left-more wide written i d within) (fault-passes e (assembled wide (program_seen (get_or written i d))) _ is))
 
 -- as many of them as a task may have
 abbrev pub few : Result (List NamedProgram) Mistake → Result (List NamedProgram) Mistake
 few read = read >>= (λ all. Ok (take most_programs all))
 
 pub few-more :
-    (written : List ProgramCode) (i : ℕ) (d : ProgramCode) (so_far : List NamedProgram) (p : NamedProgram) → i < length written
-    → assembled (program_seen (get_or written i d)) ≡ Ok p
-    → few (after so_far (all_assembled (programs_seen (drop i written)))) ≡ few (after (so_far ++ p ∷ []) (all_assembled (programs_seen (drop (i + 1) written))))
-few-more written i d so_far p within is = ap few (assembled-more written i d so_far p within is)
+    (wide : Bool) (written : List ProgramCode) (i : ℕ) (d : ProgramCode) (so_far : List NamedProgram) (p : NamedProgram) → i < length written
+    → assembled wide (program_seen (get_or written i d)) ≡ Ok p
+    → few (after so_far (all_assembled wide (programs_seen (drop i written)))) ≡ few (after (so_far ++ p ∷ []) (all_assembled wide (programs_seen (drop (i + 1) written))))
+few-more wide written i d so_far p within is = ap few (assembled-more wide written i d so_far p within is)
 
 full : (so_far more : List NamedProgram) (r : Result (List NamedProgram) Mistake) → most_programs ≤ length so_far → few (after (so_far ++ more) r) ≡ few (after so_far r)
 full so_far more (Ok rest) enough =
@@ -98,17 +98,17 @@ full so_far more (Ok rest) enough =
 full so_far more (Err mistake) enough = refl
 
 pub few-past :
-    (written : List ProgramCode) (i : ℕ) (d : ProgramCode) (so_far : List NamedProgram) (p : NamedProgram) → i < length written
-    → most_programs ≤ length so_far → assembled (program_seen (get_or written i d)) ≡ Ok p
-    → few (after so_far (all_assembled (programs_seen (drop i written)))) ≡ few (after so_far (all_assembled (programs_seen (drop (i + 1) written))))
-few-past written i d so_far p within enough is =
-    few-more written i d so_far p within is ∙ full so_far (p ∷ []) (all_assembled (programs_seen (drop (i + 1) written))) enough
+    (wide : Bool) (written : List ProgramCode) (i : ℕ) (d : ProgramCode) (so_far : List NamedProgram) (p : NamedProgram) → i < length written
+    → most_programs ≤ length so_far → assembled wide (program_seen (get_or written i d)) ≡ Ok p
+    → few (after so_far (all_assembled wide (programs_seen (drop i written)))) ≡ few (after so_far (all_assembled wide (programs_seen (drop (i + 1) written))))
+few-past wide written i d so_far p within enough is =
+    few-more wide written i d so_far p within is ∙ full so_far (p ∷ []) (all_assembled wide (programs_seen (drop (i + 1) written))) enough
 
 pub few-fails :
-    (e : TaskFault) (written : List ProgramCode) (i : ℕ) (d : ProgramCode) (so_far : List NamedProgram) → i < length written
-    → FaultIs e (assembled (program_seen (get_or written i d))) → FaultIs e (few (after so_far (all_assembled (programs_seen (drop i written)))))
-few-fails e written i d so_far within is =
-    fault-passes e (after so_far (all_assembled (programs_seen (drop i written)))) (λ all. Ok (take most_programs all)) (assembled-fails e written i d so_far within is)
+    (wide : Bool) (e : TaskFault) (written : List ProgramCode) (i : ℕ) (d : ProgramCode) (so_far : List NamedProgram) → i < length written
+    → FaultIs e (assembled wide (program_seen (get_or written i d))) → FaultIs e (few (after so_far (all_assembled wide (programs_seen (drop i written)))))
+few-fails wide e written i d so_far within is =
+    fault-passes e (after so_far (all_assembled wide (programs_seen (drop i written)))) (λ all. Ok (take most_programs all)) (assembled-fails wide e written i d so_far within is)
 
 pub few-whole : (so_far : List NamedProgram) → length so_far ≤ most_programs → few (after so_far (Ok [])) ≡ Ok so_far
 few-whole so_far short = ap (λ all. Ok (take most_programs all)) (append-nil so_far) ∙ ap Ok (take_all most_programs so_far short)

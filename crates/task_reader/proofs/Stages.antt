@@ -7,7 +7,7 @@ use Rattle.std.proofs.lemmas.Bool.{lt-ltb, ltb-true}
 use Rattle.rights.proofs.Tests.{both_left, both_right}
 use Rattle.file_tree.specs.Nodes.{Node}
 use Rattle.task_reader.specs.declared.faults.TaskFault.{TaskFault}
-use Rattle.task.specs.Plans.{Grant, NamedProgram, FirstObject, On_node, On_end, Start, Plan, plan_with}
+use Rattle.task.specs.Plans.{Grant, NamedProgram, FirstObject, On_node, On_end, Start, Plan, plan_in}
 use Rattle.task.specs.KeptLimits.{IsThere}
 use Rattle.task.specs.Limits.{is_plan}
 use Rattle.task_reader.specs.Written.{WrittenTask}
@@ -22,7 +22,7 @@ pub ap2 : {A : Type 0} {B : Type 0} {C : Type 0} (f : A → B → C) (x y : A) (
 ap2 f x y v w same alike = ap (λ a. f a v) same ∙ ap (f y) alike
 
 abbrev with_starts : WrittenTask → List Node → List Grant → List Start → Result Plan Mistake
-with_starts task tree grants starts = all_assembled task.programs >>= (λ programs. within_limits task (plan_with tree grants programs starts))
+with_starts task tree grants starts = all_assembled task.wide task.programs >>= (λ programs. within_limits task (plan_in task.wide tree grants programs starts))
 
 abbrev with_grants : WrittenTask → List Node → List Grant → Result Plan Mistake
 with_grants task tree grants = or_mistake Wrong_descriptor (starts_placed tree task.starts) >>= with_starts task tree grants
@@ -54,18 +54,18 @@ module _ (task : WrittenTask) where
         on-starts : plan_of task ≡ with_starts task tree grants starts
         on-starts = on-grants ∙ ap (λ o. or_mistake Wrong_descriptor o >>= with_starts task tree grants) started
 
-        pub fails-programs : (e : TaskFault) → FaultIs e (all_assembled task.programs) → FaultIs e (plan_of task)
-        fails-programs e is = subst (FaultIs e) (sym on-starts) (fault-passes e (all_assembled task.programs) (λ programs. within_limits task (plan_with tree grants programs starts)) is)
+        pub fails-programs : (e : TaskFault) → FaultIs e (all_assembled task.wide task.programs) → FaultIs e (plan_of task)
+        fails-programs e is = subst (FaultIs e) (sym on-starts) (fault-passes e (all_assembled task.wide task.programs) (λ programs. within_limits task (plan_in task.wide tree grants programs starts)) is)
 
-        module _ (programs : List NamedProgram) (assembled : all_assembled task.programs ≡ Ok programs) where
-          on-programs : plan_of task ≡ within_limits task (plan_with tree grants programs starts)
-          on-programs = on-starts ∙ ap (λ r. r >>= (λ programs. within_limits task (plan_with tree grants programs starts))) assembled
+        module _ (programs : List NamedProgram) (assembled : all_assembled task.wide task.programs ≡ Ok programs) where
+          on-programs : plan_of task ≡ within_limits task (plan_in task.wide tree grants programs starts)
+          on-programs = on-starts ∙ ap (λ r. r >>= (λ programs. within_limits task (plan_in task.wide tree grants programs starts))) assembled
 
           pub past-limit : keeps_limits task tree ≡ false → plan_of task ≡ Err Past_limit
-          past-limit past = on-programs ∙ ap (λ b. cond b (Ok (plan_with tree grants programs starts)) (Err Past_limit)) past
+          past-limit past = on-programs ∙ ap (λ b. cond b (Ok (plan_in task.wide tree grants programs starts)) (Err Past_limit)) past
 
-          pub reads-plan : keeps_limits task tree ≡ true → plan_of task ≡ Ok (plan_with tree grants programs starts)
-          reads-plan keeps = on-programs ∙ ap (λ b. cond b (Ok (plan_with tree grants programs starts)) (Err Past_limit)) keeps
+          pub reads-plan : keeps_limits task tree ≡ true → plan_of task ≡ Ok (plan_in task.wide tree grants programs starts)
+          reads-plan keeps = on-programs ∙ ap (λ b. cond b (Ok (plan_in task.wide tree grants programs starts)) (Err Past_limit)) keeps
 
 -- The code's numbers hold those of a plan.
 all-from : {A : Type 0} (test : A → Bool) (xs : List A) → ((i : ℕ) (x : A) → slice_get xs i ≡ Some x → test x ≡ true) → list_all test xs ≡ true

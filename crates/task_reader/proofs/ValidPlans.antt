@@ -15,13 +15,13 @@ use Rattle.rights.specs.Limits.{most_nodes, most_processes, most_grants, most_pr
 use Rattle.file_tree.specs.Refusals.{new_tree}
 use Rattle.file_tree.specs.WellFormed.{has_directory, is_within_limits}
 use Rattle.instruction_set.specs.Programs.{Instruction}
-use Rattle.instruction_set.specs.Assembly.{Fault, assembly_of}
-use Rattle.prog_asm.proofs.GoodPrograms.{assembly-good}
+use Rattle.instruction_set.specs.Assembly.{Fault, assembly_in}
+use Rattle.prog_asm.proofs.GoodPrograms.{assembly-good, assembly-spoken}
 use Rattle.toml.specs.Data.{Members}
 use Rattle.task.specs.Plans.{Grant, NamedProgram, FirstObject, On_node, On_end, FirstDescriptor, Start, Plan}
 use Rattle.texts.specs.Names.{is_name}
 use Rattle.task.specs.Limits.{all_apart, can_follow, are_made, is_tree, is_grant, are_grants_apart, are_grants, is_program_named, are_named_apart, are_programs, is_object}
-use Rattle.task.specs.Limits.{is_descriptor, are_numbered_apart, are_descriptors, is_start, are_starts, is_plan}
+use Rattle.task.specs.Limits.{is_descriptor, are_numbered_apart, are_descriptors, is_start, are_starts, is_in_language, is_plan}
 use Rattle.task_reader.specs.ApartViews.{first_assembled}
 use Rattle.task_reader.specs.Documents.{is_among, are_once}
 use Rattle.task_reader.specs.Paths.{place_of}
@@ -176,24 +176,26 @@ program-is name marked (Err fault) q is = absurd cc
 abbrev program_names : List NamedProgram → List (List ℕ)
 program_names programs = map (λ (p : NamedProgram). p.name) programs
 
-record Assembled (written : List WrittenProgram) (programs : List NamedProgram) : Type 0 where
+record Assembled (wide : Bool) (written : List WrittenProgram) (programs : List NamedProgram) : Type 0 where
   named : program_names programs ≡ names_of_programs written
   are : list_all is_named_program written ≡ true → list_all is_program_named programs ≡ true
+  spoken : list_all (is_in_language wide) programs ≡ true
 
-all-assembled : (written : List WrittenProgram) (programs : List NamedProgram) → all_assembled written ≡ Ok programs → Assembled written programs
-all-assembled [] programs is = subst (Assembled []) (ok-equal [] programs is) (record { named = refl; are = λ all. refl })
-all-assembled (p ∷ written) programs is =
-    let a = ok-then (assembled p) (λ first. all_assembled written >>= (λ rest. Ok (first ∷ rest))) programs is in
-    let b = ok-then (all_assembled written) (λ rest. Ok (a.0 ∷ rest)) programs a.2 in
-    let more = all-assembled written b.0 b.1 in
-    let facts = program-is p.name p.marked (assembly_of p.text) a.0 a.1 in
-    let whole : Assembled (p ∷ written) (a.0 ∷ b.0) = record {
+all-assembled : (wide : Bool) (written : List WrittenProgram) (programs : List NamedProgram) → all_assembled wide written ≡ Ok programs → Assembled wide written programs
+all-assembled wide [] programs is = subst (Assembled wide []) (ok-equal [] programs is) (record { named = refl; are = λ all. refl; spoken = refl })
+all-assembled wide (p ∷ written) programs is =
+    let a = ok-then (assembled wide p) (λ first. all_assembled wide written >>= (λ rest. Ok (first ∷ rest))) programs is in
+    let b = ok-then (all_assembled wide written) (λ rest. Ok (a.0 ∷ rest)) programs a.2 in
+    let more = all-assembled wide written b.0 b.1 in
+    let facts = program-is p.name p.marked (assembly_in wide p.text) a.0 a.1 in
+    let whole : Assembled wide (p ∷ written) (a.0 ∷ b.0) = record {
       named = ap (λ name. name ∷ program_names b.0) facts.0 ∙ ap (λ others. p.name ∷ others) more.named;
       are = λ all. both_true
-          (both_true (subst (λ name. is_name name ≡ true) (sym facts.0) (both_left (is_named_program p) (list_all is_named_program written) all)) (assembly-good p.text a.0.code facts.1))
+          (both_true (subst (λ name. is_name name ≡ true) (sym facts.0) (both_left (is_named_program p) (list_all is_named_program written) all)) (assembly-good wide p.text a.0.code facts.1))
           (more.are (both_right (is_named_program p) (list_all is_named_program written) all));
+      spoken = both_true (assembly-spoken wide p.text a.0.code facts.1) more.spoken;
     } in
-    subst (Assembled (p ∷ written)) (ok-equal (a.0 ∷ b.0) programs b.2) whole
+    subst (Assembled wide (p ∷ written)) (ok-equal (a.0 ∷ b.0) programs b.2) whole
 
 named-from : (p : NamedProgram) (others : List NamedProgram) → is_among p.name (program_names others) ≡ false → list_all (are_named_apart p) others ≡ true
 named-from p [] other = refl
@@ -207,15 +209,15 @@ all-named-apart (p ∷ programs) once =
     let other = not-true (is_among p.name (program_names programs)) (both_left (not (is_among p.name (program_names programs))) (are_once (program_names programs)) once) in
     both_true (named-from p programs other) (all-named-apart programs (both_right (not (is_among p.name (program_names programs))) (are_once (program_names programs)) once))
 
-programs-count : (written : List WrittenProgram) (programs : List NamedProgram) → all_assembled written ≡ Ok programs → length programs ≡ length written
-programs-count written programs is = few-named (λ (p : NamedProgram). p.name) (λ (p : WrittenProgram). p.name) programs written (all-assembled written programs is).named
+programs-count : (wide : Bool) (written : List WrittenProgram) (programs : List NamedProgram) → all_assembled wide written ≡ Ok programs → length programs ≡ length written
+programs-count wide written programs is = few-named (λ (p : NamedProgram). p.name) (λ (p : WrittenProgram). p.name) programs written (all-assembled wide written programs is).named
 
-programs-valid : (written : List WrittenProgram) (programs : List NamedProgram) → list_all is_named_program written ≡ true →
-    are_once (names_of_programs written) ≡ true → all_assembled written ≡ Ok programs → nat_le (length written) most_programs ≡ true →
+programs-valid : (wide : Bool) (written : List WrittenProgram) (programs : List NamedProgram) → list_all is_named_program written ≡ true →
+    are_once (names_of_programs written) ≡ true → all_assembled wide written ≡ Ok programs → nat_le (length written) most_programs ≡ true →
     are_programs programs ≡ true
-programs-valid written programs words once is few =
-    let all = all-assembled written programs is in
-    both_true (both_true (subst (λ n. nat_le n most_programs ≡ true) (sym (programs-count written programs is)) few) (all.are words))
+programs-valid wide written programs words once is few =
+    let all = all-assembled wide written programs is in
+    both_true (both_true (subst (λ n. nat_le n most_programs ≡ true) (sym (programs-count wide written programs is)) few) (all.are words))
     (all-named-apart programs (subst (λ ns. are_once ns ≡ true) (sym all.named) once))
 
 -- the first processes
@@ -344,12 +346,12 @@ if-ok m true x y is = (refl, ok-equal x y is)
 if-ok m false x y is = absurd cc
 
 -- all programs are kept where there are no more than a task may have
-pub all-kept : (task : WrittenTask) (tree : List Node) (kept : List NamedProgram) → first_assembled task.programs ≡ Ok kept → keeps_limits task tree ≡ true
-    → all_assembled task.programs ≡ Ok kept
+pub all-kept : (task : WrittenTask) (tree : List Node) (kept : List NamedProgram) → first_assembled task.wide task.programs ≡ Ok kept → keeps_limits task tree ≡ true
+    → all_assembled task.wide task.programs ≡ Ok kept
 all-kept task tree kept is keeps =
-    let q = ok-then (all_assembled task.programs) (λ all. Ok (take most_programs all)) kept is in
+    let q = ok-then (all_assembled task.wide task.programs) (λ all. Ok (take most_programs all)) kept is in
     let few : length task.programs ≤ most_programs = leb-true (length task.programs) most_programs (limited task tree keeps).programs in
-    let count : length q.0 ≡ length task.programs = programs-count task.programs q.0 q.1 in
+    let count : length q.0 ≡ length task.programs = programs-count task.wide task.programs q.0 q.1 in
     let short : length q.0 ≤ most_programs = omega arith in
     q.1 ∙ ap Ok (sym (take_all most_programs q.0 short) ∙ ok-equal (take most_programs q.0) kept q.2)
 
@@ -360,16 +362,18 @@ plan-valid task plan written is =
     let tree = t.0 in
     let g = ok-some Wrong_grant (policy_of tree task.grants) _ plan t.2 in
     let s = ok-some Wrong_descriptor (starts_placed tree task.starts) _ plan g.2 in
-    let p = ok-then (all_assembled task.programs) _ plan s.2 in
+    let p = ok-then (all_assembled task.wide task.programs) _ plan s.2 in
     let l = if-ok _ (keeps_limits task tree) _ plan p.2 in
     let limits = limited task tree l.0 in
     subst (λ x. is_plan x ≡ true) l.1
     (both_true
     (both_true
+    (both_true
     (both_true (tree-valid task.nodes tree t.1 limits.within limits.nodes) (grants-valid tree task.grants g.0 written.grants_named written.grants_once g.1 limits.grants))
-    (programs-valid task.programs p.0 written.programs_named written.programs_once p.1 limits.programs))
-    (subst (λ n. are_starts tree n s.0 ≡ true) (sym (programs-count task.programs p.0 p.1))
+    (programs-valid task.wide task.programs p.0 written.programs_named written.programs_once p.1 limits.programs))
+    (subst (λ n. are_starts tree n s.0 ≡ true) (sym (programs-count task.wide task.programs p.0 p.1))
     (starts-valid tree (length task.programs) task.starts s.0 written.some written.given s.1 limits.starts)))
+    (all-assembled task.wide task.programs p.0 p.1).spoken)
 
 pub read-valid : (ms : Members) (plan : Plan) → plan_in ms ≡ Ok plan → is_plan plan ≡ true
 unfolding plan_in

@@ -1,24 +1,24 @@
 -- What a written task keeps.
 use Rattle.std.proofs.Common.{◌≡◌, ℕ, zero, suc, ◌+◌, ◌<◌, List, [], ◌∷◌, Option, Some, None, option_map, Bool, true, false, cond, length, refl, ap, sym, subst, ◌∙◌, arith, codes, bit_or, ℤ}
-use Rattle.std.specs.Prelude.{◌==◌, ◌&&◌, nat_le, nat_lt, option_and_then}
+use Rattle.std.specs.Prelude.{◌==◌, ◌&&◌, ◌||◌, nat_le, nat_lt, option_and_then}
 use Rattle.std.specs.List.{list_all}
 use Rattle.std.specs.Str.{bytes_eq}
 use Rattle.std.specs.Cmp.Derive.{both_true}
 use Rattle.std.proofs.lemmas.List.{length-map}
 use Rattle.std.proofs.lemmas.Bool.{lt-ltb, le-leb}
-use Rattle.rights.specs.Sets.{is_within, all_rights, all_commands, right_names, command_names}
+use Rattle.rights.specs.Sets.{is_within, all_rights, all_commands, plain_rights, right_names, command_names}
 use Rattle.rights.specs.Operations.{Operation}
 use Rattle.rights.proofs.Subsets.{is_within-or}
 use Rattle.rights.proofs.Tests.{both_left, both_right}
 use Rattle.fd_table.specs.Descriptions.{Access}
 use Rattle.texts.specs.Names.{is_name}
-use Rattle.instruction_set.specs.Fields.{set_of_word}
+use Rattle.instruction_set.specs.Fields.{rights_in, set_of_word}
 use Rattle.toml.specs.Data.{Data, Items, no_items, item, Members, get_member, as_table}
 use Rattle.task_reader.specs.Documents.{are_once, each_item, words_in, read_or, only_keys, text_at, integer_at, items_at}
 use Rattle.task_reader.specs.Written.{WrittenNode, WrittenGrant, WrittenProgram, WrittenObject, By_path, By_pair, WrittenDescriptor, WrittenStart, WrittenTask, grant_in}
-use Rattle.task_reader.specs.Written.{grant_with, grants_once, descriptor_in, descriptor_with, listed_starts, name_at, names_of_grants, names_of_programs, object_by, pair_keys}
-use Rattle.task_reader.specs.Written.{pair_with, path_keys, path_with, place_among, place_from, program_in, program_with, programs_once, set_from, set_in, set_named, side_at}
-use Rattle.task_reader.specs.Written.{side_named, some_start, start_in, start_with, task_with, word_if, written_descriptor, written_grant, written_program, written_programs}
+use Rattle.task_reader.specs.Written.{asks_further, grant_with, grants_once, descriptor_in, descriptor_with, listed_starts, name_at, names_of_grants, names_of_programs, object_by, pair_keys}
+use Rattle.task_reader.specs.Written.{pair_with, path_keys, path_with, place_among, place_from, program_in, program_with, programs_once, rights_listed, set_from, set_in, set_named, side_at}
+use Rattle.task_reader.specs.Written.{side_named, some_start, start_in, start_with, task_in, task_keys, task_with, word_if, written_descriptor, written_grant, written_program, written_programs}
 use Rattle.task_reader.specs.Written.{written_start, written_starts, written_task}
 
 pub some-equal : {A : Type 0} (x y : A) → Some x ≡ Some y → x ≡ y
@@ -114,6 +114,15 @@ read-within all rows (Some d) set held whole none is =
     let p = and_then-some (set_named rows) (words_in d) set is in
     set-within all rows p.0 0 set held none p.2
 
+-- A list of rights names those that there are.
+listed-is : (wide : Bool) (rights : Option ℕ) (set : ℕ) → rights_in wide rights ≡ Some set → rights ≡ Some set
+listed-is wide None set is = absurd cc
+listed-is wide (Some rights) set is = (if-some (wide || is_within rights plain_rights) (Some rights) set is).1
+
+rights-within : (wide : Bool) (d : Option Data) (set : ℕ) → read_or all_rights (rights_listed wide) d ≡ Some set → is_within set all_rights ≡ true
+rights-within wide None set is = read-within all_rights right_names None set refl refl refl is
+rights-within wide (Some d) set is = read-within all_rights right_names (Some d) set refl refl refl (listed-is wide (set_in right_names d) set is)
+
 -- descriptors
 abbrev pub has_side : WrittenObject → Bool
 has_side (By_path path access) = true
@@ -165,13 +174,13 @@ descriptor-parts (Some n) (Some o) (Some r) (Some f) d is =
       fcntls_are = ap (λ (x : WrittenDescriptor). Some x.fcntls) same;
     }
 
-descriptor-bounded : (d : Data) (x : WrittenDescriptor) → written_descriptor d ≡ Some x → is_bounded x ≡ true
-descriptor-bounded d x is =
-    let p = and_then-some descriptor_in (as_table d) x is in
+descriptor-bounded : (wide : Bool) (d : Data) (x : WrittenDescriptor) → written_descriptor wide d ≡ Some x → is_bounded x ≡ true
+descriptor-bounded wide d x is =
+    let p = and_then-some (descriptor_in wide) (as_table d) x is in
     let given = descriptor-parts _ _ _ _ x p.2 in
     both_true
     (both_true (object-sided (get_member (codes "pair") p.0) p.0 x.object given.object_is)
-    (read-within all_rights right_names (get_member (codes "rights") p.0) x.rights refl refl refl given.rights_are))
+    (rights-within wide (get_member (codes "rights") p.0) x.rights given.rights_are))
     (read-within all_commands command_names (get_member (codes "fcntls") p.0) x.fcntls refl refl refl given.fcntls_are)
 
 -- processes
@@ -200,16 +209,16 @@ start-parts (Some p) (Some m) (Some ds) s is =
     let same : record { program = p; mode = m; descriptors = ds } ≡ s = cc in
     record { program_is = ap (λ (x : WrittenStart). Some x.program) same; descriptors_are = ap (λ (x : WrittenStart). Some x.descriptors) same }
 
-start-given : (names : List (List ℕ)) (d : Data) (s : WrittenStart) → written_start names d ≡ Some s → is_given (length names) s ≡ true
-start-given names d s is =
-    let p = and_then-some (start_in names) (as_table d) s is in
+start-given : (wide : Bool) (names : List (List ℕ)) (d : Data) (s : WrittenStart) → written_start wide names d ≡ Some s → is_given (length names) s ≡ true
+start-given wide names d s is =
+    let p = and_then-some (start_in wide names) (as_table d) s is in
     let q = if-some (only_keys (codes "program" ∷ codes "mode" ∷ codes "fd" ∷ []) p.0) _ s p.2 in
     let parts = start-parts _ _ _ s q.1 in
     let place = and_then-some (place_among names) (text_at (codes "program") p.0) s.program parts.program_is in
     let below : s.program < 0 + length names = place-below 0 names place.0 s.program place.2 in
     let within : s.program < length names = omega arith in
-    let fd = and_then-some (each_item written_descriptor) (items_at (codes "fd") p.0) s.descriptors parts.descriptors_are in
-    both_true (lt-ltb s.program (length names) within) (each-passes written_descriptor is_bounded descriptor-bounded fd.0 s.descriptors fd.2)
+    let fd = and_then-some (each_item (written_descriptor wide)) (items_at (codes "fd") p.0) s.descriptors parts.descriptors_are in
+    both_true (lt-ltb s.program (length names) within) (each-passes (written_descriptor wide) is_bounded (descriptor-bounded wide) fd.0 s.descriptors fd.2)
 
 -- tasks
 pub record IsWritten (task : WrittenTask) : Type 0 where
@@ -229,15 +238,15 @@ record Whole (task : WrittenTask) (grants : Option (List WrittenGrant)) (program
   programs_are : programs ≡ Some task.programs
   starts_are : starts ≡ Some task.starts
 
-task-parts : (nodes : Option (List WrittenNode)) (grants : Option (List WrittenGrant)) (programs : Option (List WrittenProgram))
-    (starts : Option (List WrittenStart)) (task : WrittenTask) → task_with nodes grants programs starts ≡ Some task →
+task-parts : (wide : Bool) (nodes : Option (List WrittenNode)) (grants : Option (List WrittenGrant)) (programs : Option (List WrittenProgram))
+    (starts : Option (List WrittenStart)) (task : WrittenTask) → task_with wide nodes grants programs starts ≡ Some task →
     Whole task grants programs starts
-task-parts None grants programs starts task is = absurd cc
-task-parts (Some n) None programs starts task is = absurd cc
-task-parts (Some n) (Some g) None starts task is = absurd cc
-task-parts (Some n) (Some g) (Some p) None task is = absurd cc
-task-parts (Some n) (Some g) (Some p) (Some s) task is =
-    let same : record { nodes = n; grants = g; programs = p; starts = s } ≡ task = cc in
+task-parts wide None grants programs starts task is = absurd cc
+task-parts wide (Some n) None programs starts task is = absurd cc
+task-parts wide (Some n) (Some g) None starts task is = absurd cc
+task-parts wide (Some n) (Some g) (Some p) None task is = absurd cc
+task-parts wide (Some n) (Some g) (Some p) (Some s) task is =
+    let same : record { nodes = n; grants = g; programs = p; starts = s; wide = wide } ≡ task = cc in
     record { grants_are = ap (λ (x : WrittenTask). Some x.grants) same; programs_are = ap (λ (x : WrittenTask). Some x.programs) same; starts_are = ap (λ (x : WrittenTask). Some x.starts) same }
 
 if-empty : (b : Bool) (xs ys : List WrittenStart) → cond b None (Some xs) ≡ Some ys → (b ≡ false) × (xs ≡ ys)
@@ -247,8 +256,10 @@ if-empty false xs ys is = (refl, cc)
 pub task-written : (ms : Members) (task : WrittenTask) → written_task ms ≡ Some task → IsWritten task
 unfolding written_task
 task-written ms task is =
-    let keys = if-some (only_keys (codes "node" ∷ codes "grant" ∷ codes "program" ∷ codes "process" ∷ []) ms) _ task is in
-    let parts = task-parts _ _ _ _ task keys.1 in
+    let keys = if-some (only_keys task_keys ms) _ task is in
+    let asks = and_then-some (task_in ms) (asks_further ms) task keys.1 in
+    let wide = asks.0 in
+    let parts = task-parts wide _ _ _ _ task asks.2 in
     let g = and_then-some grants_once (option_and_then (each_item written_grant) (items_at (codes "grant") ms)) task.grants parts.grants_are in
     let gl = and_then-some (each_item written_grant) (items_at (codes "grant") ms) g.0 g.1 in
     let go = if-some (are_once (names_of_grants g.0)) (Some g.0) task.grants g.2 in
@@ -257,11 +268,11 @@ task-written ms task is =
     let pl = and_then-some (each_item written_program) (items_at (codes "program") ms) p.0 p.1 in
     let po = if-some (are_once (names_of_programs p.0)) (Some p.0) task.programs p.2 in
     let p_same : p.0 ≡ task.programs = some-equal p.0 task.programs po.1 in
-    let s = and_then-some (written_starts ms) (written_programs ms) task.starts parts.starts_are in
+    let s = and_then-some (written_starts wide ms) (written_programs ms) task.starts parts.starts_are in
     let s_programs : s.0 ≡ task.programs = some-equal s.0 task.programs (sym s.1 ∙ parts.programs_are) in
-    let sl = and_then-some some_start (listed_starts (names_of_programs s.0) ms) task.starts s.2 in
+    let sl = and_then-some some_start (listed_starts wide (names_of_programs s.0) ms) task.starts s.2 in
     let ss = if-empty (length sl.0 == 0) sl.0 task.starts sl.2 in
-    let each = and_then-some (each_item (written_start (names_of_programs s.0))) (items_at (codes "process") ms) sl.0 sl.1 in
+    let each = and_then-some (each_item (written_start wide (names_of_programs s.0))) (items_at (codes "process") ms) sl.0 sl.1 in
     let names = names_of_programs s.0 in
     let count : length names ≡ length task.programs = length-map s.0 (λ (p : WrittenProgram). p.name) ∙ ap length s_programs in
     record {
@@ -271,5 +282,5 @@ task-written ms task is =
       programs_once = subst (λ xs. are_once (names_of_programs xs) ≡ true) p_same po.0;
       some = subst (λ xs. nat_le 1 (length xs) ≡ true) ss.1 (some-length (length sl.0) ss.0);
       given = subst (λ xs. list_all (is_given (length task.programs)) xs ≡ true) ss.1
-          (subst (λ n. list_all (is_given n) sl.0 ≡ true) count (each-passes (written_start names) (is_given (length names)) (start-given names) each.0 sl.0 each.2));
+          (subst (λ n. list_all (is_given n) sl.0 ≡ true) count (each-passes (written_start wide names) (is_given (length names)) (start-given wide names) each.0 sl.0 each.2));
     }

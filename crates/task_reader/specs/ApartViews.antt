@@ -21,7 +21,7 @@ none_begins_so (p ∷ []) = true
 none_begins_so (p ∷ q ∷ places) = not (begins p q) && none_begins_so (q ∷ places)
 
 -- the programs of a task that are kept
-abbrev pub first_assembled : List WrittenProgram → Result (List NamedProgram) Mistake
-first_assembled programs = do
-  all ← all_assembled programs
+abbrev pub first_assembled : Bool → List WrittenProgram → Result (List NamedProgram) Mistake
+first_assembled wide programs = do
+  all ← all_assembled wide programs
   Ok (take most_programs all)

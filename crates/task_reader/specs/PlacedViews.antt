@@ -9,7 +9,7 @@ use Rattle.task_reader.specs.declared.placed_starts.PlacedDescriptor.{PlacedDesc
 use Rattle.task_reader.specs.declared.placed_starts.PlacedStart.{PlacedStart}
 use Rattle.task_reader.specs.declared.reading.Parts.{Parts}
 use Rattle.file_tree.specs.Nodes.{Node}
-use Rattle.task.specs.Plans.{FirstObject, On_node, On_end, FirstDescriptor, Start, Plan, plan_with}
+use Rattle.task.specs.Plans.{FirstObject, On_node, On_end, FirstDescriptor, Start, Plan, plan_in}
 use Rattle.task.specs.Views.{grants_of, programs_of, starts_of}
 
 abbrev pub placed_object : PlacedObject → FirstObject
@@ -36,6 +36,6 @@ has_near d = is_near d.object
 abbrev pub is_small : Start → Bool
 is_small s = nat_lt s.program (2 ^ 8) && list_all has_near s.descriptors
 
--- the plan that the parts of a task are on its tree
-abbrev pub plan_on : List Node → Parts → Plan
-plan_on tree parts = plan_with tree (grants_of parts.grants.items) (programs_of parts.programs.items) (starts_of parts.starts.items)
+-- the plan that the parts of a task are on its tree, where it asks for further rights or not
+abbrev pub plan_on : Bool → List Node → Parts → Plan
+plan_on wide tree parts = plan_in wide tree (grants_of parts.grants.items) (programs_of parts.programs.items) (starts_of parts.starts.items)

@@ -8,10 +8,11 @@ use Rattle.rights.specs.Limits.{most_nodes, most_path, most_processes, most_gran
 use Rattle.file_tree.specs.Refusals.{new_tree}
 use Rattle.file_tree.specs.WellFormed.{has_directory, is_within_limits}
 use Rattle.instruction_set.specs.Programs.{Instruction}
-use Rattle.instruction_set.specs.Assembly.{Fault, assembly_of}
+use Rattle.instruction_set.specs.Assembly.{Fault, assembly_in}
 use Rattle.fd_table.specs.Descriptions.{Access}
 use Rattle.toml.specs.Data.{Members}
-use Rattle.task.specs.Plans.{Grant, NamedProgram, FirstObject, On_node, On_end, FirstDescriptor, Start, Plan, plan_with}
+use Rattle.task.specs.Plans.{Grant, NamedProgram, FirstObject, On_node, On_end, FirstDescriptor, Start, Plan}
+use Rattle.task.specs.Plans as plans
 use Rattle.task.specs.Limits.{all_apart, are_numbered_apart}
 use Rattle.task_reader.specs.Documents.{document_of}
 use Rattle.task_reader.specs.Paths.{place_of}
@@ -145,19 +146,19 @@ starts_placed tree [] = Some []
 starts_placed tree (s ∷ starts) =
     option_and_then (λ x. option_map (λ rest. x ∷ rest) (starts_placed tree starts)) (start_placed tree s)
 
--- The programs are assembled in the order of the task.
+-- The programs are assembled in the order of the task, in the wide language where it asks for further rights.
 abbrev pub program_from : List ℕ → Bool → Result (List Instruction) Fault → Result NamedProgram Mistake
 program_from name marked (Ok code) = Ok (record { name = name; code = code; marked = marked })
 program_from name marked (Err fault) = Err (Wrong_program name fault)
 
-abbrev pub assembled : WrittenProgram → Result NamedProgram Mistake
-assembled p = program_from p.name p.marked (assembly_of p.text)
+abbrev pub assembled : Bool → WrittenProgram → Result NamedProgram Mistake
+assembled wide p = program_from p.name p.marked (assembly_in wide p.text)
 
-abbrev pub all_assembled : List WrittenProgram → Result (List NamedProgram) Mistake
-all_assembled [] = Ok []
-all_assembled (p ∷ programs) = do
-  first ← assembled p
-  rest ← all_assembled programs
+abbrev pub all_assembled : Bool → List WrittenProgram → Result (List NamedProgram) Mistake
+all_assembled wide [] = Ok []
+all_assembled wide (p ∷ programs) = do
+  first ← assembled wide p
+  rest ← all_assembled wide programs
   Ok (first ∷ rest)
 
 -- What is limited: the length of a node's path, of its names, and of what it holds; and how many nodes, grants, programs
@@ -180,8 +181,8 @@ plan_of task = do
   tree ← or_mistake Wrong_node (tree_of task.nodes)
   grants ← or_mistake Wrong_grant (policy_of tree task.grants)
   starts ← or_mistake Wrong_descriptor (starts_placed tree task.starts)
-  programs ← all_assembled task.programs
-  within_limits task (plan_with tree grants programs starts)
+  programs ← all_assembled task.wide task.programs
+  within_limits task (plans.plan_in task.wide tree grants programs starts)
 
 -- What a document stands for.
 unfoldable pub plan_in : Members → Result Plan Mistake

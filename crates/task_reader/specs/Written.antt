@@ -8,7 +8,7 @@ use Rattle.rights.specs.OperationLists.{operation_name}
 use Rattle.file_tree.specs.Nodes.{Kind, File, Dir, Link}
 use Rattle.fd_table.specs.Descriptions.{Access}
 use Rattle.texts.specs.Names.{is_name}
-use Rattle.instruction_set.specs.Fields.{set_of_word}
+use Rattle.instruction_set.specs.Fields.{rights_in, set_of_word}
 use Rattle.toml.specs.Data.{Data, Members, get_member, as_str, as_bool, as_table}
 use Rattle.task_reader.specs.Documents.{is_among, are_once, only_keys, text_at, integer_at, items_at, each_item, words_in, read_or}
 
@@ -50,6 +50,7 @@ pub record WrittenTask : Type 0 where
   pub grants : List WrittenGrant
   pub programs : List WrittenProgram
   pub starts : List WrittenStart
+  pub wide : Bool  -- it asks for further rights
 
 -- A node has a path and a kind. A file has its content too, and a link its target.
 abbrev pub node_with : Kind → Option (List ℕ) → Option (List ℕ) → Option WrittenNode
@@ -167,6 +168,10 @@ set_named names words = set_from names 0 words
 abbrev pub set_in : List (List ℕ × ℕ) → Data → Option ℕ
 set_in names d = option_and_then (set_named names) (words_in d)
 
+-- A list names further rights only where the task asks for them.
+abbrev pub rights_listed : Bool → Data → Option ℕ
+rights_listed wide d = rights_in wide (set_in right_names d)
+
 -- A descriptor with a pair has a side and is of that end, and it has neither a path nor flags. One without is of the node
 -- at its path, and has no side. (open(2), socketpair(2); the sides' names are own)
 abbrev pub side_named : List ℕ → Option ℕ
@@ -214,14 +219,14 @@ descriptor_with (Some number) (Some object) (Some rights) (Some fcntls) =
     Some (record { number = number; object = object; rights = rights; fcntls = fcntls })
 descriptor_with _ _ _ _ = None
 
-abbrev pub descriptor_in : Members → Option WrittenDescriptor
-descriptor_in ms =
+abbrev pub descriptor_in : Bool → Members → Option WrittenDescriptor
+descriptor_in wide ms =
     descriptor_with (integer_at (codes "number") ms) (object_written ms)
-    (read_or all_rights (set_in right_names) (get_member (codes "rights") ms))
+    (read_or all_rights (rights_listed wide) (get_member (codes "rights") ms))
     (read_or all_commands (set_in command_names) (get_member (codes "fcntls") ms))
 
-abbrev pub written_descriptor : Data → Option WrittenDescriptor
-written_descriptor d = option_and_then descriptor_in (as_table d)
+abbrev pub written_descriptor : Bool → Data → Option WrittenDescriptor
+written_descriptor wide d = option_and_then (descriptor_in wide) (as_table d)
 
 -- A process names its program, and lists its descriptors. It starts in capability mode if its mode is `cap`. (cap_enter(2))
 abbrev pub mode_named : List ℕ → Option Bool
@@ -249,19 +254,19 @@ start_with _ _ _ = None
 abbrev pub program_place : List (List ℕ) → Members → Option ℕ
 program_place names ms = option_and_then (place_among names) (text_at (codes "program") ms)
 
-abbrev pub descriptors_in : Members → Option (List WrittenDescriptor)
-descriptors_in ms = option_and_then (each_item written_descriptor) (items_at (codes "fd") ms)
+abbrev pub descriptors_in : Bool → Members → Option (List WrittenDescriptor)
+descriptors_in wide ms = option_and_then (each_item (written_descriptor wide)) (items_at (codes "fd") ms)
 
-abbrev pub start_in : List (List ℕ) → Members → Option WrittenStart
-start_in names ms =
+abbrev pub start_in : Bool → List (List ℕ) → Members → Option WrittenStart
+start_in wide names ms =
     if only_keys (codes "program" ∷ codes "mode" ∷ codes "fd" ∷ []) ms
     then start_with (option_and_then (place_among names) (text_at (codes "program") ms))
     (read_or false mode_written (get_member (codes "mode") ms))
-    (option_and_then (each_item written_descriptor) (items_at (codes "fd") ms))
+    (option_and_then (each_item (written_descriptor wide)) (items_at (codes "fd") ms))
     else None
 
-abbrev pub written_start : List (List ℕ) → Data → Option WrittenStart
-written_start names d = option_and_then (start_in names) (as_table d)
+abbrev pub written_start : Bool → List (List ℕ) → Data → Option WrittenStart
+written_start wide names d = option_and_then (start_in wide names) (as_table d)
 
 -- Names are given once, and there is a process. So there is a program too.
 abbrev pub names_of_grants : List WrittenGrant → List (List ℕ)
@@ -290,22 +295,30 @@ abbrev pub written_programs : Members → Option (List WrittenProgram)
 written_programs ms =
     option_and_then programs_once (option_and_then (each_item written_program) (items_at (codes "program") ms))
 
-abbrev pub listed_starts : List (List ℕ) → Members → Option (List WrittenStart)
-listed_starts names ms = option_and_then (each_item (written_start names)) (items_at (codes "process") ms)
+abbrev pub listed_starts : Bool → List (List ℕ) → Members → Option (List WrittenStart)
+listed_starts wide names ms = option_and_then (each_item (written_start wide names)) (items_at (codes "process") ms)
 
-abbrev pub written_starts : Members → List WrittenProgram → Option (List WrittenStart)
-written_starts ms programs = option_and_then some_start (listed_starts (names_of_programs programs) ms)
+abbrev pub written_starts : Bool → Members → List WrittenProgram → Option (List WrittenStart)
+written_starts wide ms programs = option_and_then some_start (listed_starts wide (names_of_programs programs) ms)
 
 abbrev pub task_with :
-    Option (List WrittenNode) → Option (List WrittenGrant) → Option (List WrittenProgram) → Option (List WrittenStart)
+    Bool → Option (List WrittenNode) → Option (List WrittenGrant) → Option (List WrittenProgram) → Option (List WrittenStart)
     → Option WrittenTask
-task_with (Some nodes) (Some grants) (Some programs) (Some starts) =
-    Some (record { nodes = nodes; grants = grants; programs = programs; starts = starts })
-task_with _ _ _ _ = None
+task_with wide (Some nodes) (Some grants) (Some programs) (Some starts) =
+    Some (record { nodes = nodes; grants = grants; programs = programs; starts = starts; wide = wide })
+task_with wide _ _ _ _ = None
+
+-- A task asks for further rights where it says so.
+abbrev pub asks_further : Members → Option Bool
+asks_further ms = read_or false as_bool (get_member (codes "further_rights") ms)
+
+abbrev pub task_in : Members → Bool → Option WrittenTask
+task_in ms wide =
+    task_with wide (written_nodes ms) (written_grants ms) (written_programs ms)
+    (option_and_then (written_starts wide ms) (written_programs ms))
+
+abbrev pub task_keys : List (List ℕ)
+task_keys = codes "node" ∷ codes "grant" ∷ codes "program" ∷ codes "process" ∷ codes "further_rights" ∷ []
 
 unfoldable pub written_task : Members → Option WrittenTask
-written_task ms =
-    if only_keys (codes "node" ∷ codes "grant" ∷ codes "program" ∷ codes "process" ∷ []) ms
-    then task_with (written_nodes ms) (written_grants ms) (written_programs ms)
-    (option_and_then (written_starts ms) (written_programs ms))
-    else None
+written_task ms = if only_keys task_keys ms then option_and_then (task_in ms) (asks_further ms) else None

@@ -50,4 +50,5 @@ task_seen t = record {
   grants = grants_seen t.grants.items;
   programs = programs_seen t.programs.items;
   starts = starts_seen t.starts.items;
+  wide = t.further_rights;
 }

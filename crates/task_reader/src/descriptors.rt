@@ -1,14 +1,14 @@
 //! The descriptors of a task's document: each on the node at a path, or on a side of a socket pair.
 
 ghost use Rattle.std.specs.Prelude.{◌≡◌, option_map};
-ghost use Rattle.rights.specs.Sets.{all_commands, all_rights, command_names, right_names};
+ghost use Rattle.rights.specs.Sets.{all_commands, all_rights, command_names};
 ghost use Rattle.rights.specs.Views.{side_seen};
 ghost use Rattle.fd_table.specs.Views.{access_seen};
 ghost use Rattle.toml.specs.View.{table_view, view};
 ghost use Rattle.task_reader.specs.Documents.{read_or};
 ghost use Rattle.task_reader.specs.FaultViews.{ReadsTask};
 ghost use Rattle.task_reader.specs.Reading.{Wrong_field, or_mistake};
-ghost use Rattle.task_reader.specs.Written.{access_in, descriptor_in, object_written, pair_in, path_written, reading, set_in, side_at, written_descriptor};
+ghost use Rattle.task_reader.specs.Written.{access_in, descriptor_in, object_written, pair_in, path_written, reading, rights_listed, set_in, side_at, written_descriptor};
 ghost use Rattle.task_reader.specs.WrittenViews.{descriptor_seen, object_seen};
 
 use crate::documents::{has_only, integer_at, read_words, text_at, value_at};
@@ -54,13 +54,25 @@ fn read_set<F: Flags + Copy>(alloc: Global, value: &Value) -> Result<F, TaskFaul
     }
 }
 
+/// The rights that a list names, further ones among them only where the task asks for them.
+fn listed_rights(alloc: Global, further: bool, value: &Value) -> Result<Rights, TaskFault>
+    ensures { ReadsTask (λ rights. rights.0) result (or_mistake Wrong_field (rights_listed further (view value.now))) }
+{
+    let rights = read_set::<Rights>(alloc, value)?;
+    if further || Rights::plain().contains(rights) {
+        Ok(rights)
+    } else {
+        Err(TaskFault::Field)
+    }
+}
+
 /// A descriptor's rights: all, where no list says which. (rights(4))
-fn read_rights(alloc: Global, value: Option<&Value>) -> Result<Rights, TaskFault>
+fn read_rights(alloc: Global, further: bool, value: Option<&Value>) -> Result<Rights, TaskFault>
     ensures { ReadsTask (λ rights. rights.0) result
-        (or_mistake Wrong_field (read_or all_rights (set_in right_names) (option_map (λ v. view v.now) value.entry))) }
+        (or_mistake Wrong_field (read_or all_rights (rights_listed further) (option_map (λ v. view v.now) value.entry))) }
 {
     match value {
-        Some(value) => read_set(alloc, value),
+        Some(value) => listed_rights(alloc, further, value),
         None => Ok(Rights::all()),
     }
 }
@@ -126,8 +138,12 @@ fn object(alloc: Global, table: &Table) -> Result<WrittenObject<'_>, TaskFault>
 }
 
 /// A first descriptor, with its object, rights and commands.
-fn descriptor(alloc: Global, table: &Table) -> Result<WrittenDescriptor<'_>, TaskFault>
-    ensures { ReadsTask descriptor_seen result (or_mistake Wrong_field (descriptor_in (table_view table.now))) }
+fn descriptor(
+    alloc: Global,
+    further: bool,
+    table: &Table,
+) -> Result<WrittenDescriptor<'_>, TaskFault>
+    ensures { ReadsTask descriptor_seen result (or_mistake Wrong_field (descriptor_in further (table_view table.now))) }
 {
     let Some(number) = integer_at(table, "number") else {
         return Err(TaskFault::Field);
@@ -135,20 +151,21 @@ fn descriptor(alloc: Global, table: &Table) -> Result<WrittenDescriptor<'_>, Tas
     Ok(WrittenDescriptor {
         number,
         object: object(alloc, table)?,
-        rights: read_rights(alloc, value_at(table, "rights"))?,
+        rights: read_rights(alloc, further, value_at(table, "rights"))?,
         fcntls: read_fcntls(alloc, value_at(table, "fcntls"))?,
     })
 }
 
-/// The first descriptor that a value is.
+/// The first descriptor that a value is, of a task that asks for further rights or doesn't.
 pub(crate) fn written_descriptor<'a>(
     alloc: Global,
+    further: bool,
     value: &'a Value,
 ) -> Result<WrittenDescriptor<'a>, TaskFault>
-    ensures { ReadsTask descriptor_seen result (or_mistake Wrong_field (written_descriptor (view value.now))) }
+    ensures { ReadsTask descriptor_seen result (or_mistake Wrong_field (written_descriptor further (view value.now))) }
 {
     match value.as_table() {
-        Some(table) => descriptor(alloc, table),
+        Some(table) => descriptor(alloc, further, table),
         None => Err(TaskFault::Field),
     }
 }

@@ -1,9 +1,9 @@
 //! What stands in the tables of a TOML document.
 
-ghost use Rattle.std.specs.Prelude.{◌≡◌, IfErr, IfOk, map, option_map};
-ghost use Rattle.toml.specs.Data.{as_str, get_member};
+ghost use Rattle.std.specs.Prelude.{◌≡◌, false, IfErr, IfOk, map, option_map};
+ghost use Rattle.toml.specs.Data.{as_bool, as_str, get_member};
 ghost use Rattle.toml.specs.View.{array_view, items_view, table_view, view};
-ghost use Rattle.task_reader.specs.Documents.{are_once, document_of, each_item, integer_at, is_among, items_at, once, only_keys, text_at, words_in};
+ghost use Rattle.task_reader.specs.Documents.{are_once, document_of, each_item, integer_at, is_among, items_at, once, only_keys, read_or, text_at, words_in};
 ghost use Rattle.task_reader.specs.FaultViews.{ReadsTask};
 ghost use Rattle.task_reader.specs.Reading.{Not_toml, Wrong_field, or_mistake};
 ghost use Rattle.task_reader.specs.declared.faults.TaskFault.TheVariants as fault;
@@ -84,6 +84,16 @@ pub(crate) fn value_at<'a>(table: &'a Table, key: &str) -> Option<&'a Value>
     ensures { option_map (λ v. view v.now) result ≡ get_member key.now (table_view table.now) }
 {
     table.get(key)
+}
+
+/// The truth value at a key: false, where nothing stands there.
+pub(crate) fn truth_at(table: &Table, key: &str) -> Option<bool>
+    ensures { result ≡ read_or false as_bool (get_member key.now (table_view table.now)) }
+{
+    match value_at(table, key) {
+        Some(value) => value.as_bool(),
+        None => Some(false),
+    }
 }
 
 /// The text at a key.

@@ -1,17 +1,16 @@
 //! The tables of a task's document: nodes, grants and programs.
 
-ghost use Rattle.std.specs.Prelude.{◌≡◌, IfSome, false, map, option_and_then, option_map, true};
+ghost use Rattle.std.specs.Prelude.{◌≡◌, IfSome, map, option_and_then, option_map, true};
 ghost use Rattle.rights.specs.Views.{operation_of};
-ghost use Rattle.toml.specs.Data.{as_bool, as_table};
+ghost use Rattle.toml.specs.Data.{as_table};
 ghost use Rattle.toml.specs.View.{table_view, view};
-ghost use Rattle.task_reader.specs.Documents.{read_or};
 ghost use Rattle.task_reader.specs.FaultViews.{ReadsTask};
 ghost use Rattle.task_reader.specs.Reading.{Wrong_field, or_mistake};
 ghost use Rattle.task_reader.specs.Written.{directory_in, file_in, grant_in, link_in, name_at, node_in, operations_in, program_in, written_grant, written_node, written_program};
 ghost use Rattle.task_reader.specs.WrittenViews.{grant_seen, node_seen, program_seen};
 ghost use Rattle.texts.specs.Names.{is_name};
 
-use crate::documents::{has_only, read_words, text_at, value_at};
+use crate::documents::{has_only, read_words, text_at, truth_at, value_at};
 use crate::faults::TaskFault;
 use crate::words::read_operations;
 use crate::written::{WrittenGrant, WrittenNode, WrittenProgram};
@@ -111,16 +110,6 @@ fn name_at<'a>(table: &'a Table, key: &str) -> Option<&'a str>
     }
 }
 
-/// Whether a program is marked as untrusted: it isn't, where its table doesn't say so.
-fn is_untrusted(value: Option<&Value>) -> Option<bool>
-    ensures { result ≡ read_or false as_bool (option_map (λ v. view v.now) value.entry) }
-{
-    match value {
-        Some(value) => value.as_bool(),
-        None => Some(false),
-    }
-}
-
 /// A program, with its text, and whether it is marked.
 fn program(table: &Table) -> Option<WrittenProgram<'_>>
     ensures { option_map program_seen result ≡ program_in (table_view table.now) }
@@ -128,7 +117,7 @@ fn program(table: &Table) -> Option<WrittenProgram<'_>>
     if !has_only(table, &["name", "code", "untrusted"]) {
         return None;
     }
-    let untrusted = is_untrusted(value_at(table, "untrusted"));
+    let untrusted = truth_at(table, "untrusted");
     match (name_at(table, "name"), text_at(table, "code"), untrusted) {
         (Some(name), Some(text), Some(untrusted)) => Some(WrittenProgram {
             name,

@@ -13,7 +13,7 @@ ghost use Rattle.task_reader.specs.WrittenViews.{descriptor_seen, grant_seen, gr
 ghost use Rattle.task_reader.specs.declared.faults.TaskFault.TheVariants as fault;
 
 use crate::descriptors::written_descriptor;
-use crate::documents::{are_once, has_only, items_at, text_at, value_at, words_once};
+use crate::documents::{are_once, has_only, items_at, text_at, truth_at, value_at, words_once};
 use crate::faults::TaskFault;
 use crate::fields::{written_grant, written_node, written_program};
 use crate::words::{mode, place_among};
@@ -196,14 +196,15 @@ fn program_at(names: &IndexSet<&str>, table: &Table) -> Option<usize>
 /// The descriptors of a list.
 fn descriptor_list<'a>(
     alloc: Global,
+    further: bool,
     values: &'a [Value],
 ) -> Result<Vec<WrittenDescriptor<'a>>, TaskFault>
     ensures { ReadsTask (λ descriptors. map descriptor_seen descriptors.items) result
-        (or_mistake Wrong_field (each_item written_descriptor (items_view values.now))) }
+        (or_mistake Wrong_field (each_item (written_descriptor further) (items_view values.now))) }
 {
     let mut descriptors = Vec::with_capacity(alloc, values.len())?;
     for value in values {
-        descriptors.push(written_descriptor(alloc, value)?)?;
+        descriptors.push(written_descriptor(alloc, further, value)?)?;
     }
     Ok(descriptors)
 }
@@ -211,13 +212,14 @@ fn descriptor_list<'a>(
 /// A process's descriptors.
 fn read_descriptors<'a>(
     alloc: Global,
+    further: bool,
     table: &'a Table,
 ) -> Result<Vec<WrittenDescriptor<'a>>, TaskFault>
     ensures { ReadsTask (λ descriptors. map descriptor_seen descriptors.items) result
-        (or_mistake Wrong_field (descriptors_in (table_view table.now))) }
+        (or_mistake Wrong_field (descriptors_in further (table_view table.now))) }
 {
     match items_at(table, "fd") {
-        Some(values) => descriptor_list(alloc, values),
+        Some(values) => descriptor_list(alloc, further, values),
         None => Err(TaskFault::Field),
     }
 }
@@ -225,18 +227,19 @@ fn read_descriptors<'a>(
 /// A first process of one of these programs.
 fn start<'a>(
     alloc: Global,
+    further: bool,
     names: &IndexSet<&str>,
     table: &'a Table,
 ) -> Result<WrittenStart<'a>, TaskFault>
     ensures { ReadsTask start_seen result
-        (or_mistake Wrong_field (start_in (map (λ n. n.now) names.now.keys) (table_view table.now))) }
+        (or_mistake Wrong_field (start_in further (map (λ n. n.now) names.now.keys) (table_view table.now))) }
 {
     if !has_only(table, &["program", "mode", "fd"]) {
         return Err(TaskFault::Field);
     }
     match (program_at(names, table), read_mode(value_at(table, "mode"))) {
         (Some(program), Some(mode)) => {
-            let descriptors = read_descriptors(alloc, table)?;
+            let descriptors = read_descriptors(alloc, further, table)?;
             Ok(WrittenStart {
                 program,
                 mode,
@@ -250,14 +253,15 @@ fn start<'a>(
 /// The first process that a value is.
 fn written_start<'a>(
     alloc: Global,
+    further: bool,
     names: &IndexSet<&str>,
     value: &'a Value,
 ) -> Result<WrittenStart<'a>, TaskFault>
     ensures { ReadsTask start_seen result
-        (or_mistake Wrong_field (written_start (map (λ n. n.now) names.now.keys) (view value.now))) }
+        (or_mistake Wrong_field (written_start further (map (λ n. n.now) names.now.keys) (view value.now))) }
 {
     match value.as_table() {
-        Some(table) => start(alloc, names, table),
+        Some(table) => start(alloc, further, names, table),
         None => Err(TaskFault::Field),
     }
 }
@@ -265,15 +269,16 @@ fn written_start<'a>(
 /// The first processes of a list.
 fn start_list<'a>(
     alloc: Global,
+    further: bool,
     names: &IndexSet<&str>,
     values: &'a [Value],
 ) -> Result<Vec<WrittenStart<'a>>, TaskFault>
     ensures { ReadsTask (λ starts. starts_seen starts.items) result
-        (or_mistake Wrong_field (each_item (written_start (map (λ n. n.now) names.now.keys)) (items_view values.now))) }
+        (or_mistake Wrong_field (each_item (written_start further (map (λ n. n.now) names.now.keys)) (items_view values.now))) }
 {
     let mut starts = Vec::with_capacity(alloc, values.len())?;
     for value in values {
-        starts.push(written_start(alloc, names, value)?)?;
+        starts.push(written_start(alloc, further, names, value)?)?;
     }
     Ok(starts)
 }
@@ -281,29 +286,31 @@ fn start_list<'a>(
 /// A document's list of first processes, of programs of these names.
 fn listed_starts<'a>(
     alloc: Global,
+    further: bool,
     names: &IndexSet<&str>,
     table: &'a Table,
 ) -> Result<Vec<WrittenStart<'a>>, TaskFault>
     ensures { ReadsTask (λ starts. starts_seen starts.items) result
-        (or_mistake Wrong_field (listed_starts (map (λ n. n.now) names.now.keys) (table_view table.now))) }
+        (or_mistake Wrong_field (listed_starts further (map (λ n. n.now) names.now.keys) (table_view table.now))) }
 {
     match items_at(table, "process") {
-        Some(values) => start_list(alloc, names, values),
+        Some(values) => start_list(alloc, further, names, values),
         None => Err(TaskFault::Field),
     }
 }
 
-/// A document's first processes: there is one at least.
+/// A document's first processes: there is one at least. Their descriptors have further rights listed or not.
 fn read_starts<'a>(
     alloc: Global,
+    further: bool,
     table: &'a Table,
     read: &NamedPrograms<'_>,
 ) -> Result<Vec<WrittenStart<'a>>, TaskFault>
     requires { map (λ n. n.now) read.now.names.keys ≡ names_of_programs (programs_seen read.now.programs.items) }
     ensures { ReadsTask (λ starts. starts_seen starts.items) result
-        (or_mistake Wrong_field (written_starts (table_view table.now) (programs_seen read.now.programs.items))) }
+        (or_mistake Wrong_field (written_starts further (table_view table.now) (programs_seen read.now.programs.items))) }
 {
-    let starts = listed_starts(alloc, &read.names, table)?;
+    let starts = listed_starts(alloc, further, &read.names, table)?;
     if starts.is_empty() {
         return Err(TaskFault::Field);
     }
@@ -315,17 +322,24 @@ fn read_starts<'a>(
 pub(crate) fn read_written(alloc: Global, table: &Table) -> Result<WrittenTask<'_>, TaskFault>
     ensures { ReadsTask task_seen result (or_mistake Wrong_field (written_task (table_view table.now))) }
 {
-    if !has_only(table, &["node", "grant", "program", "process"]) {
+    if !has_only(
+        table,
+        &["node", "grant", "program", "process", "further_rights"],
+    ) {
         return Err(TaskFault::Field);
     }
+    let Some(further_rights) = truth_at(table, "further_rights") else {
+        return Err(TaskFault::Field);
+    };
     let nodes = read_nodes(alloc, table)?;
     let grants = read_grants(alloc, table)?;
     let read = read_programs(alloc, table)?;
-    let starts = read_starts(alloc, table, &read)?;
+    let starts = read_starts(alloc, further_rights, table, &read)?;
     Ok(WrittenTask {
         nodes,
         grants,
         programs: read.programs,
         starts,
+        further_rights,
     })
 }

@@ -101,11 +101,11 @@ fn make_parts(
     requires document { (document : Members) × (written_task document ≡ Some (task_seen written.now)) }
     requires tree { tree_of (task_seen written.now).nodes ≡ Some (nodes_of tree.now.nodes.items) }
     requires index { IsIndex tree.now.numbers (nodes_of tree.now.nodes.items) }
-    ensures { ReadsTask (plan_on (nodes_of tree.now.nodes.items)) result (plan_of (task_seen written.now)) }
+    ensures { ReadsTask (plan_on written.now.further_rights (nodes_of tree.now.nodes.items)) result (plan_of (task_seen written.now)) }
 {
     check_policy(alloc, tree, &written.grants)?;
     let placed = place_starts(alloc, tree, &written.starts)?;
-    let programs = assemble_all(alloc, &written.programs)?;
+    let programs = assemble_all(alloc, written.further_rights, &written.programs)?;
     if !keeps_limits(written, &tree.nodes) {
         return Err(TaskFault::Limit);
     }
@@ -125,7 +125,13 @@ fn make_task(alloc: Global, written: &WrittenTask<'_>) -> Result<Task, TaskFault
 {
     let tree = make_tree(alloc, &written.nodes)?;
     let parts = make_parts(alloc, &tree, written)?;
-    Ok(Task::new(tree.nodes, parts.grants, parts.programs, parts.starts))
+    Ok(Task::new(
+        tree.nodes,
+        parts.grants,
+        parts.programs,
+        parts.starts,
+        written.further_rights,
+    ))
 }
 
 /// The task that is written in a document.
@@ -138,13 +144,16 @@ fn task_in(alloc: Global, document: &Table) -> Result<Task, TaskFault>
 
 /// Reads a task from a TOML document. (own; descriptors after open(2), socketpair(2), rights(4) and cap_fcntls_limit(2))
 ///
-/// A document has the lists `node`, `grant`, `program` and `process`, and no other key. A node has `path`, `kind` (`dir`,
-/// `file` or `link`), and a file its `content`, a link its `target`. A grant has `name`, `path` and `ops` (`look`, `read`,
-/// `write`, `create`, `remove`), a program `name`, `code` and maybe `untrusted` (a truth value, false by default). A process has `program`, the name of one, `fd`, and `mode`
-/// (`free`, which is the default, or `cap`). A descriptor of `fd` has `number`, and maybe `rights` and `fcntls` (all by
-/// default). It is of a node, and has its `path` and maybe `flags` (`read`, the default, and `write`); or of an end of a socket
-/// pair, and has the `pair` and the `side` (`a` or `b`). A path is `/`, or each name after a `/`. The root is there and isn't
-/// listed.
+/// A document has the lists `node`, `grant`, `program` and `process`, and maybe `further_rights` (a truth value, false by default),
+/// and no other key. A node has `path`, `kind` (`dir`, `file` or `link`), and a file its `content`, a link its `target`. A grant has
+/// `name`, `path` and `ops` (`look`, `read`, `write`, `create`, `remove`), a program `name`, `code` and maybe `untrusted` (a truth
+/// value, false by default). A process has `program`, the name of one, `fd`, and `mode` (`free`, which is the default, or `cap`). A
+/// descriptor of `fd` has `number`, and maybe `rights` and `fcntls` (all by default). It is of a node, and has its `path` and maybe
+/// `flags` (`read`, the default, and `write`); or of an end of a socket pair, and has the `pair` and the `side` (`a` or `b`). A path
+/// is `/`, or each name after a `/`. The root is there and isn't listed.
+///
+/// Where `further_rights` is true, `rights` may name further rights too, and `code` is of the wide language, which has `use` and
+/// limits that name further rights. Elsewhere both are unknown words.
 ///
 /// # Errors
 ///

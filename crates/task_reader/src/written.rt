@@ -66,4 +66,6 @@ pub(crate) struct WrittenTask<'a> {
     pub(crate) grants: Vec<WrittenGrant<'a>>,
     pub(crate) programs: Vec<WrittenProgram<'a>>,
     pub(crate) starts: Vec<WrittenStart<'a>>,
+    /// Whether it asks for further rights.
+    pub(crate) further_rights: bool,
 }

@@ -1,13 +1,15 @@
 -- Rows of what stands where in a text.
 use Rattle.std.proofs.Common.{◌≡◌, ◌<◌, ℕ, ◌-◌, ◌^◌, List, [], ◌∷◌, ◌++◌, Bool, true, false, refl, sym, ap, ◌∙◌, arith}
-use Rattle.std.specs.Prelude.{codes, min, nat_lt, Some, if◌then◌else◌}
+use Rattle.std.specs.Prelude.{codes, min, nat_lt, None, Some, if◌then◌else◌}
 use Rattle.std.specs.Fmt.{decimal}
 use Rattle.std.specs.List.{flat_map}
 use Rattle.task_text.specs.FaultLines.{more_line, placed_line}
 use Rattle.task_text.specs.FaultViews.{AddsFaultLines}
 use Rattle.texts.specs.declared.pages.Page.{Page}
 use Rattle.task_text.specs.Instructions.{line_there, text_there}
+use Rattle.task_text.specs.NearWords.{is_one_of, meant_of}
 use Rattle.task_text.specs.Places.{part, place_at}
+use Rattle.task_text.specs.RightWords.{right_words}
 
 -- a byte of the second line, the line feed before it, and the end
 second_line : place_at (codes "a\nbc") 3 ≡ (2, 2)
@@ -32,6 +34,19 @@ text_of_instruction = refl
 
 line_of_instruction : line_there (codes "x\n\nhalt") (3 ∷ 4 ∷ []) 7 (Some (1, 2)) ≡ 3
 line_of_instruction = refl
+
+-- a further right is a word of a task that asks for further rights alone, and is meant there alone
+further_word : is_one_of (right_words true) (codes "EVENT") ≡ true
+further_word = refl
+
+no_further_word : is_one_of (right_words false) (codes "EVENT") ≡ false
+no_further_word = refl
+
+further_word_meant : meant_of (right_words true) (codes "CAP_MMAP_R") ≡ Some (codes "MMAP_R")
+further_word_meant = refl
+
+no_further_word_meant : meant_of (right_words false) (codes "CAP_MMAP_R") ≡ None
+no_further_word_meant = refl
 
 -- a line of how many more, and none where there are no more
 more_faults : more_line 12 ≡ codes "faults that are left out: " ++ decimal 12 ++ codes "\n"

@@ -1,6 +1,6 @@
 -- Texts of instructions and of programs, one more.
 use Rattle.std.proofs.Common.{◌≡◌, ◌<◌, ℕ, zero, suc, List, [], ◌∷◌, ◌++◌, length, map, get_or, ap, sym, subst, arith}
-use Rattle.std.specs.Prelude.{Some}
+use Rattle.std.specs.Prelude.{Bool, Some}
 use Rattle.std.specs.List.{slice_get}
 use Rattle.instruction_set.specs.Programs.{Instruction}
 use Rattle.prog_asm.specs.LineParts.{IsLineOf}
@@ -14,20 +14,21 @@ use Rattle.task_text.specs.FaultViews.{fault_of}
 use Rattle.task_text.specs.declared.faults.Line.{Line}
 use Rattle.task_text.specs.declared.program_texts.ProgramText.{ProgramText}
 
-pub one-line : (texts : List (List ℕ)) (code : List Instruction) (text : List ℕ) (instruction : Instruction) → AreLinesOf texts code →
-    slice_get code (length texts) ≡ Some instruction → IsLineOf text instruction → AreLinesOf (texts ++ text ∷ []) code
-one-line [] [] text instruction are there is = absurd cc
-one-line [] (first ∷ code) text instruction are there is = let same : first ≡ instruction = cc in (subst (IsLineOf text) (sym same) is, tt)
-one-line (own ∷ texts) [] text instruction are there is = absurd are
-one-line (own ∷ texts) (first ∷ code) text instruction are there is = (are.0, one-line texts code text instruction are.1 there is)
+pub one-line : (wide : Bool) (texts : List (List ℕ)) (code : List Instruction) (text : List ℕ) (instruction : Instruction) → AreLinesOf wide texts code →
+    slice_get code (length texts) ≡ Some instruction → IsLineOf wide text instruction → AreLinesOf wide (texts ++ text ∷ []) code
+one-line wide [] [] text instruction are there is = absurd cc
+one-line wide [] (first ∷ code) text instruction are there is = let same : first ≡ instruction = cc in (subst (IsLineOf wide text) (sym same) is, tt)
+one-line wide (own ∷ texts) [] text instruction are there is = absurd are
+one-line wide (own ∷ texts) (first ∷ code) text instruction are there is = (are.0, one-line wide texts code text instruction are.1 there is)
 
-pub one-text : (texts : List ProgramText) (codes : List (List Instruction)) (text : ProgramText) (code : List Instruction) → AreTextsOf texts codes →
-    slice_get codes (length texts) ≡ Some code → AreLinesOf (texts_at text.code.bytes.items text.instructions.items) code → AreTextsOf (texts ++ text ∷ []) codes
-one-text [] [] text code are there lines = absurd cc
-one-text [] (first ∷ codes) text code are there lines =
-    let same : first ≡ code = cc in (subst (AreLinesOf (texts_at text.code.bytes.items text.instructions.items)) (sym same) lines, tt)
-one-text (own ∷ texts) [] text code are there lines = absurd are
-one-text (own ∷ texts) (first ∷ codes) text code are there lines = (are.0, one-text texts codes text code are.1 there lines)
+pub one-text : (wide : Bool) (texts : List ProgramText) (codes : List (List Instruction)) (text : ProgramText) (code : List Instruction) → AreTextsOf wide texts codes →
+    slice_get codes (length texts) ≡ Some code → AreLinesOf wide (texts_at text.code.bytes.items text.instructions.items) code →
+    AreTextsOf wide (texts ++ text ∷ []) codes
+one-text wide [] [] text code are there lines = absurd cc
+one-text wide [] (first ∷ codes) text code are there lines =
+    let same : first ≡ code = cc in (subst (AreLinesOf wide (texts_at text.code.bytes.items text.instructions.items)) (sym same) lines, tt)
+one-text wide (own ∷ texts) [] text code are there lines = absurd are
+one-text wide (own ∷ texts) (first ∷ codes) text code are there lines = (are.0, one-text wide texts codes text code are.1 there lines)
 
 -- Lines in the order of their offsets tell of faults in that order.
 pub faults-ordered : (lines : List Line) → IsNonDecreasingBy (λ line. line.offset) lines → IsNonDecreasingBy (λ fault. fault.0) (map fault_of lines)

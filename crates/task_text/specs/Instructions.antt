@@ -1,15 +1,15 @@
 -- The instructions that are shown of a program's text. (own)
-use Rattle.std.specs.Prelude.{ℕ, List, [], ◌∷◌, Option, None, Some}
+use Rattle.std.specs.Prelude.{ℕ, Bool, List, [], ◌∷◌, Option, None, Some}
 use Rattle.std.specs.List.{slice_get}
 use Rattle.instruction_set.specs.Programs.{Instruction}
 use Rattle.prog_asm.specs.LineParts.{IsLineOf}
 use Rattle.task_text.specs.Places.{part, place_at}
 
--- Texts from point 0 on are each the line of the instruction at its point.
-abbrev pub AreLinesOf : List (List ℕ) → List Instruction → Type 0
-AreLinesOf [] code = Unit {0}
-AreLinesOf (text ∷ texts) [] = ⊥
-AreLinesOf (text ∷ texts) (instruction ∷ code) = IsLineOf text instruction × AreLinesOf texts code
+-- Texts from point 0 on are each the line of the instruction at its point, in the wide language or the other.
+abbrev pub AreLinesOf : Bool → List (List ℕ) → List Instruction → Type 0
+AreLinesOf wide [] code = Unit {0}
+AreLinesOf wide (text ∷ texts) [] = ⊥
+AreLinesOf wide (text ∷ texts) (instruction ∷ code) = IsLineOf wide text instruction × AreLinesOf wide texts code
 
 -- the text that begins and ends there; nothing where none is shown
 abbrev pub text_there : List ℕ → Option (ℕ × ℕ) → List ℕ

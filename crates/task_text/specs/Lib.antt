@@ -5,4 +5,5 @@ pub mod ProgramViews
 pub mod FaultLines
 pub mod FaultViews
 pub mod NearWords
+pub mod RightWords
 pub mod SourceViews

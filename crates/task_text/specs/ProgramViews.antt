@@ -1,5 +1,5 @@
 -- What the text of a program shows.
-use Rattle.std.specs.Prelude.{ℕ, List, [], ◌∷◌, map, Option, option_map}
+use Rattle.std.specs.Prelude.{ℕ, Bool, List, [], ◌∷◌, map, Option, option_map}
 use Rattle.std.specs.List.{slice_get}
 use Rattle.instruction_set.specs.Programs.{Instruction}
 use Rattle.prog_asm.specs.declared.lines.Span.{Span}
@@ -19,8 +19,8 @@ texts_at text spans = map (λ span. part text span.start span.end) spans
 abbrev pub codes_in : List NamedProgram → List (List Instruction)
 codes_in programs = map (λ program. program.code) programs
 
--- Each text shows lines of the program at its place alone, each for the point of its instruction.
-abbrev pub AreTextsOf : List ProgramText → List (List Instruction) → Type 0
-AreTextsOf [] codes = Unit {0}
-AreTextsOf (text ∷ texts) [] = ⊥
-AreTextsOf (text ∷ texts) (code ∷ codes) = AreLinesOf (texts_at text.code.bytes.items text.instructions.items) code × AreTextsOf texts codes
+-- Each text shows lines of the program at its place alone, each for the point of its instruction, in the wide language or the other.
+abbrev pub AreTextsOf : Bool → List ProgramText → List (List Instruction) → Type 0
+AreTextsOf wide [] codes = Unit {0}
+AreTextsOf wide (text ∷ texts) [] = ⊥
+AreTextsOf wide (text ∷ texts) (code ∷ codes) = AreLinesOf wide (texts_at text.code.bytes.items text.instructions.items) code × AreTextsOf wide texts codes

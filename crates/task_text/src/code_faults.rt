@@ -9,7 +9,8 @@ use crate::near::meant;
 use crate::places::part;
 use crate::program_texts::codes_of;
 use indexmap::IndexSet;
-use prog_asm::{Form, LineFault, LineMistake, MNEMONICS, line_faults, line_parts};
+use prog_asm::{Form, LineFault, LineMistake, MNEMONICS, Mnemonic, line_faults, line_parts};
+use rights::Call;
 use rights::limits::MAX_INSTRUCTIONS;
 use std::alloc::{AllocError, Global};
 use texts::{Line, Lines, Page, parts_of};
@@ -43,6 +44,17 @@ impl<'t> Labels<'t> {
         }
         Ok(labels)
     }
+}
+
+/// The words that instructions begin with, in the wide language or the other.
+fn instruction_words(alloc: Global, wide: bool) -> Result<Vec<&'static str>, AllocError> {
+    let mut words = Vec::new(alloc);
+    for mnemonic in &MNEMONICS {
+        if wide || !matches!(mnemonic, Mnemonic::Make(Call::Use)) {
+            words.push(mnemonic.name())?;
+        }
+    }
+    Ok(words)
 }
 
 /// Whether a byte parts words.
@@ -100,7 +112,7 @@ impl<'a> CodeFault<'a> {
     /// Tells what list is meant by a word at an offset. Whether one is.
     fn add_list(&self, faults: &mut Faults<'_>, offset: usize, word: &[u8], form: Form) -> bool {
         let mut list = Page::new(faults.alloc);
-        let is_meant = add_meant(&mut list, word, words_of(form));
+        let is_meant = add_meant(&mut list, word, form);
         if is_meant {
             faults.add(offset, parts_of!("`", word, "`: `", &list, "` is meant?"));
         }
@@ -117,7 +129,12 @@ impl<'a> CodeFault<'a> {
             return self.add(faults, "is a byte that no word of a program has");
         }
         let (start, word) = word_around(self.line, self.fault.span.start);
-        for form in [Form::Flags, Form::Rights, Form::Commands].iter() {
+        let rights = if faults.wide {
+            Form::AllRights
+        } else {
+            Form::Rights
+        };
+        for form in [Form::Flags, rights, Form::Commands].iter() {
             if self.add_list(faults, self.offset_of(start), word, *form) {
                 return;
             }
@@ -128,10 +145,7 @@ impl<'a> CodeFault<'a> {
     /// Tells of a word that isn't known: a label, a byte, or what an instruction would begin with.
     fn add_word(&self, faults: &mut Faults<'_>) -> Result<(), AllocError> {
         let word = self.word();
-        let mut known = Vec::new(faults.alloc);
-        for mnemonic in &MNEMONICS {
-            known.push(mnemonic.name())?;
-        }
+        let known = instruction_words(faults.alloc, faults.wide)?;
         if matches!(word, [byte] if !may_stand_in_word(*byte)) {
             self.add_stray(faults);
         } else if self.line.get(self.fault.span.end) == Some(&b':') {
@@ -151,7 +165,7 @@ impl<'a> CodeFault<'a> {
         let is_list = list.contains(&b',');
         let mut at = self.fault.span.start;
         for word in list.split(|byte| *byte == b',') {
-            if is_of_freebsd(word) {
+            if is_of_freebsd(faults.wide, word) {
                 faults.add_of(self.offset_of(at), word, OF_FREEBSD);
                 return true;
             }
@@ -167,7 +181,9 @@ impl<'a> CodeFault<'a> {
     /// Tells of an operand that isn't of the form that its place wants, with what was meant.
     fn add_form(&self, faults: &mut Faults<'_>, form: Form) {
         let (word, known) = (self.word(), words_of(form));
-        if !known.is_empty() && has_known_words(word, known) {
+        if form == Form::FurtherRight && word.contains(&b',') {
+            self.add(faults, "is a list: `use` has one further right");
+        } else if !known.is_empty() && has_known_words(word, known) {
             self.add(faults, "has a word twice, or words that don't go together");
         } else if known.is_empty()
             || !self.add_list(faults, self.offset(), word, form)
@@ -230,7 +246,7 @@ fn add_returns(faults: &mut Faults<'_>, code: &Decoded, bytes: &mut [u8]) {
 
 /// Tells of the faults of a program.
 fn add_program(faults: &mut Faults<'_>, code: &Decoded) -> Result<(), AllocError> {
-    if line_faults(faults.alloc, &code.bytes)?.is_empty() {
+    if line_faults(faults.alloc, faults.wide, &code.bytes)?.is_empty() {
         return Ok(());
     }
     let mut bytes = Vec::from_slice(faults.alloc, &code.bytes)?;
@@ -240,7 +256,7 @@ fn add_program(faults: &mut Faults<'_>, code: &Decoded) -> Result<(), AllocError
         lines.push(line)?;
     }
     let labels = Labels::new(faults.alloc, &lines)?;
-    for fault in &line_faults(faults.alloc, &bytes)? {
+    for fault in &line_faults(faults.alloc, faults.wide, &bytes)? {
         if let Some(line) = lines.get(fault.line.saturating_sub(1)) {
             let (start, line, fault) = (line.offset, line.text, *fault);
             let fault = CodeFault {

@@ -1,6 +1,6 @@
 //! What is wanted behind the word of an instruction, in words.
 
-use crate::known_words::{command_words, flag_words, right_words};
+use crate::known_words::{command_words, flag_words, further_words, is_of_freebsd, right_words};
 use crate::near::{is_known, meant};
 use prog_asm::Form;
 use texts::{Page, say};
@@ -13,7 +13,8 @@ pub(crate) fn wanted(form: Form) -> &'static str {
         Form::Operand => "a register r0 to r7 or a number",
         Form::Path => "a path in double quotes",
         Form::Flags => "a list of read, write, append, create, trunc, joined by commas",
-        Form::Rights => "a list of rights, joined by commas, or none",
+        Form::Rights | Form::AllRights => "a list of rights, joined by commas, or none",
+        Form::FurtherRight => "a further right",
         Form::Commands => "GETFL, SETFL, both joined by a comma, or none",
         Form::Label => "a label",
         Form::Directory => "dir",
@@ -21,13 +22,16 @@ pub(crate) fn wanted(form: Form) -> &'static str {
     }
 }
 
-/// The words that a list of this form is made of.
+/// The words that a list of this form is made of, or that its one word is one of.
 pub(crate) fn words_of(form: Form) -> &'static [&'static str] {
     match form {
         Form::Flags => flag_words(),
-        Form::Rights => right_words(),
+        Form::Rights => right_words(false),
+        Form::AllRights => right_words(true),
+        Form::FurtherRight => further_words(),
         Form::Commands => command_words(),
-        _ => &[],
+        Form::Register | Form::Number | Form::Operand | Form::Path => &[],
+        Form::Label | Form::Directory | Form::Else => &[],
     }
 }
 
@@ -35,17 +39,27 @@ pub(crate) fn words_of(form: Form) -> &'static [&'static str] {
 pub(crate) fn kind_of_word(form: Form) -> &'static str {
     match form {
         Form::Flags => "flag",
-        Form::Rights => "right",
+        Form::Rights | Form::AllRights | Form::FurtherRight => "right",
         Form::Commands => "command",
-        _ => "word",
+        Form::Register | Form::Number | Form::Operand | Form::Path => "word",
+        Form::Label | Form::Directory | Form::Else => "word",
     }
 }
 
-/// Adds a list with its words as they were meant, parted by commas. Whether all its words are known then.
-pub(crate) fn add_meant(page: &mut Page, list: &[u8], known: &[&str]) -> bool {
+/// The word of a list of this form that is meant by another. Beside further rights, what FreeBSD has more of is meant as it is.
+fn meant_in(form: Form, word: &[u8]) -> Option<&'static str> {
+    let is_wide = matches!(form, Form::AllRights | Form::FurtherRight);
+    if is_wide && is_of_freebsd(true, word) {
+        return None;
+    }
+    meant(word, words_of(form))
+}
+
+/// Adds a list of this form with its words as they were meant, parted by commas. Whether all its words are known then.
+pub(crate) fn add_meant(page: &mut Page, list: &[u8], form: Form) -> bool {
     let mut separator = b"".as_slice();
     for word in list.split(|byte| *byte == b',' || *byte == b'|') {
-        let Some(one) = meant(word, known) else {
+        let Some(one) = meant_in(form, word) else {
             return false;
         };
         say!(page; separator, one);

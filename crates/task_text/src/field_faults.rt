@@ -6,7 +6,7 @@ use crate::fields::{Entry, Fields, Item, Table, TableKind, kind_beneath};
 use crate::known_words::{
     OF_FREEBSD, Value, is_of_freebsd, keys_of, kind_name, needed_keys, value_of,
 };
-use crate::near::is_known;
+use crate::near::{is_known, meant};
 use crate::places::part;
 use crate::tokens::{Token, TokenKind};
 use std::alloc::AllocError;
@@ -63,6 +63,15 @@ fn add_value(
     Ok(())
 }
 
+/// Tells of a key that tables of its kind don't have. Where a task's own is not meant, those that each task has are told.
+fn add_unknown_key(faults: &mut Faults<'_>, kind: TableKind, place: usize, name: &[u8]) {
+    let known = match kind {
+        TableKind::Top if meant(name, keys_of(kind)).is_none() => needed_keys(kind),
+        _ => keys_of(kind),
+    };
+    faults.add_word(place, parts_of!("key of ", kind_name(kind)), name, known);
+}
+
 /// Tells of the faults of a key and its value.
 fn add_entry(faults: &mut Faults<'_>, fields: &Fields, entry: &Entry) -> Result<(), AllocError> {
     let kind = fields.kind_of(entry.table);
@@ -71,11 +80,12 @@ fn add_entry(faults: &mut Faults<'_>, fields: &Fields, entry: &Entry) -> Result<
     }
     let name = entry.key.written(faults.file);
     match (key_named(kind, name), entry.value) {
-        (Some(key), Some(value)) => add_value(faults, value_of(kind, key), key, value),
+        (Some(key), Some(value)) => {
+            add_value(faults, value_of(faults.wide, kind, key), key, value)
+        }
         (Some(_), None) => Ok(()),
         (None, _) => {
-            let what = parts_of!("key of ", kind_name(kind));
-            faults.add_word(entry.key.start, what, name, keys_of(kind));
+            add_unknown_key(faults, kind, entry.key.start, name);
             Ok(())
         }
     }
@@ -95,13 +105,14 @@ fn is_twice(file: &[u8], fields: &Fields, number: usize, item: Item) -> bool {
 /// The key of the list that a word stands in, and the words that the list may have, if these are known.
 fn list_of(
     file: &[u8],
+    wide: bool,
     fields: &Fields,
     item: Item,
 ) -> Option<(&'static str, &'static [&'static str])> {
     let entry = fields.entries.get(item.entry)?;
     let kind = fields.kind_of(entry.table);
     let key = key_named(kind, entry.key.written(file))?;
-    match value_of(kind, key) {
+    match value_of(wide, kind, key) {
         Value::Words(known) => Some((key, known)),
         _ => None,
     }
@@ -109,14 +120,14 @@ fn list_of(
 
 /// Tells of the fault of a word of a list, by its place among all words.
 fn add_item(faults: &mut Faults<'_>, fields: &Fields, number: usize, item: Item) {
-    let Some((key, known)) = list_of(faults.file, fields, item) else {
+    let Some((key, known)) = list_of(faults.file, faults.wide, fields, item) else {
         return;
     };
     let word = item.word.written(faults.file);
     let start = item.word.start;
     if !matches!(item.word.kind, TokenKind::Text(_)) {
         faults.add_of(start, word, "is to be in quotes");
-    } else if is_of_freebsd(word) {
+    } else if is_of_freebsd(faults.wide, word) {
         faults.add_of(start, word, OF_FREEBSD);
     } else if !is_known(word, known) {
         faults.add_word(start, key, word, known);
@@ -145,7 +156,7 @@ fn unknown_name<'a>(file: &'a [u8], table: &Table) -> Option<&'a [u8]> {
 /// Tells of a table that no task has, or of the keys that a table lacks.
 fn add_table(faults: &mut Faults<'_>, fields: &Fields, number: usize, table: &Table) {
     if let Some(name) = unknown_name(faults.file, table) {
-        faults.add_word(table.start, "table", name, keys_of(TableKind::Top));
+        faults.add_word(table.start, "table", name, needed_keys(TableKind::Top));
     }
     for key in needed_keys(table.kind) {
         if !has_key(faults.file, fields, number, table, *key) {

@@ -1,5 +1,6 @@
 //! The tables of a task's text: each key with the place of its value. What is no task has tables and keys too.
 
+use crate::known_words::FURTHER_RIGHTS;
 use crate::tokens::{Token, TokenKind, tokens_of};
 use std::alloc::{AllocError, Global};
 
@@ -90,6 +91,9 @@ struct Reader<'a> {
     process: usize,
 }
 
+/// The table of the whole text, by its place among all.
+const TOP: usize = 0;
+
 /// The kind of the table that stands at a key of another.
 pub(crate) fn kind_beneath(parent: TableKind, key: &[u8]) -> TableKind {
     match (parent, str::from_utf8(key).unwrap_or("")) {
@@ -125,6 +129,17 @@ impl Fields {
     /// The value of a key of a table, if it has it.
     pub(crate) fn value_at(&self, file: &[u8], table: usize, key: &[u8]) -> Option<Token> {
         self.entry_at(file, table, key)?.value
+    }
+
+    /// Whether the task asks for further rights.
+    pub(crate) fn asks_for_further_rights(&self, file: &[u8]) -> bool {
+        match self.value_at(file, TOP, FURTHER_RIGHTS.as_bytes()) {
+            Some(value) => {
+                let is_word = matches!(value.kind, TokenKind::Word);
+                is_word && value.written(file) == b"true".as_slice()
+            }
+            None => false,
+        }
     }
 }
 
@@ -180,7 +195,7 @@ impl<'a> Reader<'a> {
         let parent = if kind == TableKind::Descriptor {
             self.process
         } else {
-            0
+            TOP
         };
         self.current = self.add_table(kind, name.start, parent)?;
         Ok(())
@@ -264,10 +279,10 @@ pub(crate) fn fields_of(alloc: Global, file: &[u8]) -> Result<Fields, AllocError
         },
         frames: Vec::new(alloc),
         before: Before::Nothing,
-        current: 0,
-        process: 0,
+        current: TOP,
+        process: TOP,
     };
-    reader.add_table(TableKind::Top, 0, 0)?;
+    reader.add_table(TableKind::Top, 0, TOP)?;
     for token in &tokens_of(alloc, file)? {
         reader.take(*token)?;
     }

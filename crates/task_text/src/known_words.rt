@@ -3,33 +3,84 @@
 ghost use Rattle.std.specs.Prelude.{◌≡◌, ◌∷◌, [], map};
 ghost use Rattle.rights.specs.OperationLists.{operation_name};
 ghost use Rattle.rights.specs.Operations.{Look, Read, Write, Create, Remove};
-ghost use Rattle.rights.specs.Sets.{command_names, right_names};
+ghost use Rattle.rights.specs.Sets.{command_names};
 ghost use Rattle.call_facts.specs.Sets.{flag_rows};
+ghost use Rattle.task_text.specs.RightWords as rights;
 
 use crate::fields::TableKind;
+use crate::near::is_known;
 
-/// The names of the rights, with those for sockets behind them.
-pub(crate) fn right_words() -> &'static [&'static str]
-    ensures { map (λ word. word.now) result.now ≡ map (λ named. named.0) right_names }
+/// The names of the rights: of the fourteen that every task may name, with those for sockets behind them, and of the further rights.
+const RIGHT_WORDS: [&str; 48] = [
+    "READ",
+    "WRITE",
+    "SEEK",
+    "FTRUNCATE",
+    "FSYNC",
+    "FSTAT",
+    "FCNTL",
+    "LOOKUP",
+    "CREATE",
+    "FSTATAT",
+    "MKDIRAT",
+    "UNLINKAT",
+    "RENAMEAT_SOURCE",
+    "RENAMEAT_TARGET",
+    "RECV",
+    "SEND",
+    "ACCEPT",
+    "BIND",
+    "CONNECT",
+    "CONNECTAT",
+    "EVENT",
+    "FCHDIR",
+    "FCHFLAGS",
+    "FCHMOD",
+    "FCHMODAT",
+    "FCHOWN",
+    "FCHOWNAT",
+    "FEXECVE",
+    "FLOCK",
+    "FPATHCONF",
+    "FSTATFS",
+    "FUTIMES",
+    "FUTIMESAT",
+    "GETPEERNAME",
+    "GETSOCKNAME",
+    "GETSOCKOPT",
+    "IOCTL",
+    "KQUEUE_CHANGE",
+    "KQUEUE_EVENT",
+    "LISTEN",
+    "MMAP_R",
+    "MMAP_W",
+    "MMAP_X",
+    "PDGETPID",
+    "PDKILL",
+    "SETSOCKOPT",
+    "SHUTDOWN",
+    "TTYHOOK",
+];
+
+/// How many of them every task may name, which come first.
+const PLAIN_WORDS: usize = 16;
+
+/// The names of the rights that a task may name: of the further ones too, where it asks for them.
+pub(crate) fn right_words(wide: bool) -> &'static [&'static str]
+    ensures { map (λ word. word.now) result.now ≡ rights.right_words wide }
 {
-    &[
-        "READ",
-        "WRITE",
-        "SEEK",
-        "FTRUNCATE",
-        "FSYNC",
-        "FSTAT",
-        "FCNTL",
-        "LOOKUP",
-        "CREATE",
-        "FSTATAT",
-        "MKDIRAT",
-        "UNLINKAT",
-        "RENAMEAT_SOURCE",
-        "RENAMEAT_TARGET",
-        "RECV",
-        "SEND",
-    ]
+    if wide {
+        &RIGHT_WORDS
+    } else {
+        &RIGHT_WORDS[..PLAIN_WORDS]
+    }
+}
+
+/// The names of the further rights.
+pub(crate) fn further_words() -> &'static [&'static str]
+    ensures { map (λ word. word.now) result.now ≡ rights.further_words }
+{
+    &RIGHT_WORDS[PLAIN_WORDS..]
 }
 
 /// The names of the fcntl commands.
@@ -53,7 +104,8 @@ pub(crate) fn flag_words() -> &'static [&'static str]
     &["read", "write", "append", "create", "trunc"]
 }
 
-/// The rights and fcntl commands of FreeBSD that a task can't name. (rights(4), cap_fcntls_limit(2))
+/// The rights and fcntl commands of FreeBSD that no task can name, but for the further rights where it asks for them. (rights(4),
+/// cap_fcntls_limit(2))
 const FREEBSD_WORDS: &str =
     "ACCEPT ACL_CHECK ACL_DELETE ACL_GET ACL_SET BIND BINDAT CHFLAGSAT CONNECT CONNECTAT EVENT \
     EXTATTR_DELETE EXTATTR_GET EXTATTR_LIST EXTATTR_SET FCHDIR FCHFLAGS FCHMOD FCHMODAT FCHOWN FCHOWNAT \
@@ -62,9 +114,12 @@ const FREEBSD_WORDS: &str =
     MKNODAT MMAP MMAP_R MMAP_RW MMAP_RWX MMAP_RX MMAP_W MMAP_WX MMAP_X PDGETPID PDKILL PEELOFF PREAD \
     PWRITE SEM_GETVALUE SEM_POST SEM_WAIT SETOWN SETSOCKOPT SHUTDOWN SYMLINKAT TTYHOOK";
 
-/// Whether a word is one of these, with `CAP_` before it or without.
-pub(crate) fn is_of_freebsd(word: &[u8]) -> bool {
+/// Whether a word is one of these that the task can't name, with `CAP_` before it or without.
+pub(crate) fn is_of_freebsd(wide: bool, word: &[u8]) -> bool {
     let name = word.strip_prefix(b"CAP_".as_slice()).unwrap_or(word);
+    if wide && is_known(name, further_words()) {
+        return false;
+    }
     FREEBSD_WORDS
         .as_bytes()
         .split(|byte| *byte == b' ')
@@ -91,10 +146,13 @@ pub(crate) enum Value {
     Tables,
 }
 
+/// The key by which a task asks for further rights.
+pub(crate) const FURTHER_RIGHTS: &str = "further_rights";
+
 /// The keys of a table of this kind.
 pub(crate) fn keys_of(kind: TableKind) -> &'static [&'static str] {
     match kind {
-        TableKind::Top => &["node", "grant", "process", "program"],
+        TableKind::Top => &["node", "grant", "process", "program", FURTHER_RIGHTS],
         TableKind::Node => &["path", "kind", "content", "target"],
         TableKind::Grant => &["name", "path", "ops"],
         TableKind::Process => &["program", "mode", "fd"],
@@ -111,17 +169,19 @@ pub(crate) fn keys_of(kind: TableKind) -> &'static [&'static str] {
 /// Those of them that have to be there.
 pub(crate) fn needed_keys(kind: TableKind) -> &'static [&'static str] {
     match kind {
+        TableKind::Top => &["node", "grant", "process", "program"],
         TableKind::Node => &["path", "kind"],
         TableKind::Process => &["program", "fd"],
         TableKind::Descriptor => &["number"],
         TableKind::Program => &["name", "code"],
-        TableKind::Top | TableKind::Grant | TableKind::Other => keys_of(kind),
+        TableKind::Grant | TableKind::Other => keys_of(kind),
     }
 }
 
-/// What the value of one of its keys is.
-pub(crate) fn value_of(kind: TableKind, key: &str) -> Value {
+/// What the value of one of its keys is, in a task that asks for further rights or doesn't.
+pub(crate) fn value_of(wide: bool, kind: TableKind, key: &str) -> Value {
     match (kind, key) {
+        (TableKind::Top, "further_rights") | (TableKind::Program, "untrusted") => Value::Truth,
         (TableKind::Top, _) | (TableKind::Process, "fd") => Value::Tables,
         (TableKind::Node, "kind") => Value::OneOf(&["file", "dir", "link"]),
         (TableKind::Grant, "ops") => Value::Words(operation_words()),
@@ -132,9 +192,8 @@ pub(crate) fn value_of(kind: TableKind, key: &str) -> Value {
         (TableKind::Descriptor, "number" | "pair") => Value::Number,
         (TableKind::Descriptor, "flags") => Value::Words(&["read", "write"]),
         (TableKind::Descriptor, "side") => Value::OneOf(&["a", "b"]),
-        (TableKind::Descriptor, "rights") => Value::Words(right_words()),
+        (TableKind::Descriptor, "rights") => Value::Words(right_words(wide)),
         (TableKind::Descriptor, "fcntls") => Value::Words(command_words()),
-        (TableKind::Program, "untrusted") => Value::Truth,
         _ => Value::Text,
     }
 }

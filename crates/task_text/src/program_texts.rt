@@ -66,13 +66,14 @@ impl ProgramText {
     }
 }
 
-/// Where in a text the lines of these instructions stand; nowhere, where it has others.
+/// Where in a text the lines of these instructions stand, in the wide language or the other; nowhere, where it has others.
 fn instructions_in(
     alloc: Global,
+    wide: bool,
     text: &[u8],
     code: &[Instruction],
 ) -> Result<Vec<Span>, AllocError>
-    ensures { IfOk result (λ spans. AreLinesOf (texts_at text.now spans.items) (code_of code.now)) }
+    ensures { IfOk result (λ spans. AreLinesOf wide (texts_at text.now spans.items) (code_of code.now)) }
 {
     let mut spans = Vec::new(alloc);
     for line in Lines::new(text) {
@@ -86,7 +87,7 @@ fn instructions_in(
         let Some(instruction) = code.get(spans.len()) else {
             return Ok(Vec::new(alloc));
         };
-        if !is_line_of(alloc, part(text, span.start, span.end), instruction)? {
+        if !is_line_of(alloc, wide, part(text, span.start, span.end), instruction)? {
             return Ok(Vec::new(alloc));
         }
         spans.push(span)?;
@@ -118,7 +119,7 @@ pub fn texts_of_file(
     task: &Task,
 ) -> Result<Vec<ProgramText>, AllocError>
     ensures each { IfOk result (λ texts. length texts.items ≡ length task.now.programs) }
-    ensures lines { IfOk result (λ texts. AreTextsOf texts.items (codes_in task.now.programs)) }
+    ensures lines { IfOk result (λ texts. AreTextsOf task.now.wide texts.items (codes_in task.now.programs)) }
 {
     let mut codes = codes_of(alloc, file, &fields_of(alloc, file)?)?;
     let mut texts = Vec::new(alloc);
@@ -128,7 +129,12 @@ pub fn texts_of_file(
             offsets: Vec::new(alloc),
             end: 0,
         });
-        let instructions = instructions_in(alloc, &code.bytes, program.program.code())?;
+        let instructions = instructions_in(
+            alloc,
+            task.further_rights(),
+            &code.bytes,
+            program.program.code(),
+        )?;
         texts.push(ProgramText { code, instructions })?;
     }
     Ok(texts)

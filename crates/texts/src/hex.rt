@@ -28,6 +28,22 @@ pub fn four_digits(number: u16) -> [u8; 4]
     ]
 }
 
+/// The eight digits of a number, the highest first.
+pub fn eight_digits(number: u32) -> [u8; 8]
+    ensures { result ≡ hex_text 8 number }
+{
+    [
+        one_digit((number / 0x1000_0000) as u8),
+        one_digit((number / 0x100_0000 % 16) as u8),
+        one_digit((number / 0x10_0000 % 16) as u8),
+        one_digit((number / 0x1_0000 % 16) as u8),
+        one_digit((number / 0x1000 % 16) as u8),
+        one_digit((number / 0x100 % 16) as u8),
+        one_digit((number / 16 % 16) as u8),
+        one_digit((number % 16) as u8),
+    ]
+}
+
 /// Whether the byte is a hexadecimal digit in lower case.
 fn is_digit(byte: u8) -> bool
     ensures { result ≡ is_hex_digit byte }

@@ -11,10 +11,10 @@ pub mod parts;
 pub mod words;
 
 pub use digits::Decimal;
-pub use hex::{four_digits, one_digit, read_hex};
+pub use hex::{eight_digits, four_digits, one_digit, read_hex};
 pub use lines::{Line, Lines};
 pub use names::{Name, is_name};
 pub use numbers::{NumberFault, begins_well, compare_numbers, is_number, number_up_to};
-pub use pages::{Page, Say};
+pub use pages::{Page, Say, ToldRights};
 pub use parts::first_part;
 pub use words::Words;

@@ -225,15 +225,44 @@ fn say_names<F: Flags>(set: &F, page: &mut Page) {
     }
 }
 
-/// The names of the rights of a set, or that it is all of them.
+/// The names of the rights of a set, or that it is all of those that every task may name. Where all further rights are in it nothing is
+/// said of them.
 impl Say for Rights {
     ghost said = { λ rights. None };
 
     fn say(self, page: &mut Page) {
-        if self == Rights::all() {
+        let noted = self.noted();
+        if noted == Rights::plain() {
             return "all rights".say(page);
         }
-        say_names(&self, page)
+        say_names(&noted, page)
+    }
+}
+
+/// Rights, as they are told of a task that asks for further rights or of another.
+#[derive(Clone, Copy)]
+pub struct ToldRights {
+    pub wide: bool,
+    pub rights: Rights,
+}
+
+/// The names of the rights, or that it is all of those that the task may name.
+impl Say for ToldRights {
+    ghost said = { λ told. None };
+
+    fn say(self, page: &mut Page) {
+        let (rights, further) = (self.rights, Rights::further());
+        if !self.wide {
+            rights.say(page)
+        } else if rights == Rights::all() {
+            "all rights".say(page)
+        } else if rights.contains(further) {
+            let plain = rights.intersection(Rights::plain());
+            say_names(&plain, page);
+            " and all further rights".say(page)
+        } else {
+            say_names(&rights, page)
+        }
     }
 }
 

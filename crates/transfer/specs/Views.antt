@@ -50,6 +50,7 @@ abbrev pub need_of : NeedCode → Need
 need_of n = record {
   rights = n.rights.0;
   commands = n.commands.0;
+  further = n.further.0;
   kept_rights = n.kept_rights.0;
   kept_commands = n.kept_commands.0;
   works = n.works;

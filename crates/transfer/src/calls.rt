@@ -23,6 +23,7 @@ use certificate::{
     Bound, Class, FcntlsRange, Held, Interval, ModeBound, RightsRange, Side, Slot, Target,
 };
 use instruction_set::{Operand, Syscall};
+use rights::acts_beneath;
 use rights::limits::{MAX_BYTES, MAX_PROCESSES};
 
 /// Whether a process is surely in capability mode.
@@ -159,6 +160,10 @@ fn manner_of(site: &Site<'_>, call: &Syscall) -> Manner
         Syscall::CapEnter => Manner::Enters,
         Syscall::Socketpair => Manner::Pairs,
         Syscall::Fork => Manner::Forks,
+        Syscall::Use { descriptor, right } if acts_beneath(*right) => {
+            Manner::Gives(*descriptor, Kind::Node, only(0))
+        }
+        Syscall::Use { descriptor, .. } => Manner::Gives(*descriptor, Kind::Any, only(0)),
         Syscall::CapGetmode => Manner::Stays(mode_interval(site.bound.mode())),
         Syscall::Stat { .. } => Manner::Stays(Interval::new(1, 2)),
         Syscall::Mkdir { .. } | Syscall::Unlink { .. } => Manner::Stays(only(0)),

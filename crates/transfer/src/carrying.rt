@@ -3,7 +3,7 @@
 ghost use Rattle.std.specs.Prelude.{◌≡◌, Some, true, option_map};
 ghost use Rattle.certificate.specs.Views.{bound_of};
 ghost use Rattle.instruction_set.specs.Views.{instruction_of};
-ghost use Rattle.transfer.specs.CallViews.{carried_at};
+ghost use Rattle.transfer.specs.CallViews.{carried_at, met_at};
 ghost use Rattle.transfer.specs.Limits.{leaves_known};
 
 use crate::instructions::{failure, successes_pass};
@@ -40,11 +40,10 @@ impl OutcomeVisitor for Meeting {
     }
 }
 
-/// The join of the outcomes of an instruction that go to the next point, an error's too; `None` if none goes there. Takes no
-/// memory. (own)
-pub fn carried_on(site: &Site<'_>, instruction: &Instruction) -> Option<Bound>
+/// The join of the outcomes of an instruction that go to the next point, an error's too; `None` if none goes there.
+fn met_next(site: &Site<'_>, instruction: &Instruction) -> Option<Bound>
     requires { leaves_known (instruction_of instruction.now) ≡ true }
-    ensures { option_map bound_of result ≡ carried_at site.now (instruction_of instruction.now) }
+    ensures { option_map bound_of result ≡ met_at site.now (instruction_of instruction.now) }
 {
     let mut meeting = Meeting {
         point: site.point as usize + 1,
@@ -55,4 +54,15 @@ pub fn carried_on(site: &Site<'_>, instruction: &Instruction) -> Option<Bound>
         meeting.visit(&outcome);
     }
     meeting.bound
+}
+
+/// The join of the outcomes of an instruction that go to the next point, an error's too, as the certificate says it; `None` if
+/// none goes there. Takes no memory. (own)
+pub fn carried_on(site: &Site<'_>, instruction: &Instruction) -> Option<Bound>
+    requires { leaves_known (instruction_of instruction.now) ≡ true }
+    ensures { option_map bound_of result ≡ carried_at site.now (instruction_of instruction.now) }
+{
+    let mut met = met_next(site, instruction)?;
+    met.tell_in(site.cert.version());
+    Some(met)
 }

@@ -9,6 +9,7 @@ ghost use Rattle.transfer.specs.Views.{demands_of};
 use crate::slots::{Takes, free_numbers, is_single, may_be_on, operand_interval};
 use certificate::Bound;
 use instruction_set::{Operand, Syscall};
+use rights::reaches_globally;
 
 /// What a call asks as a whole. (own)
 #[derive(Clone, Copy)]
@@ -88,6 +89,10 @@ pub fn demanded(call: &Syscall) -> Demands
         | Syscall::Unlinkat { .. }
         | Syscall::Renameat { .. }
         | Syscall::Fork => Demands::NOTHING,
+        Syscall::Use { right, .. } => Demands {
+            is_global: reaches_globally(*right),
+            ..Demands::NOTHING
+        },
     }
 }
 

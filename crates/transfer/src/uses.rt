@@ -1,14 +1,15 @@
 //! Which slots a call goes through, and what it needs of each.
 
-ghost use Rattle.std.specs.Prelude.{◌≡◌, ◌∷◌, [], Some, false, option_map, true};
+ghost use Rattle.std.specs.Prelude.{◌≡◌, ◌∷◌, [], Some, false, is_some, option_map, true};
+ghost use Rattle.rights.specs.Uses.{operation_of_use};
 ghost use Rattle.rights.specs.Operations.{Remove};
 ghost use Rattle.rights.specs.Views.{operation_of};
 ghost use Rattle.instruction_set.specs.Views.{operand_of, syscall_of};
-ghost use Rattle.rules.specs.Needs.{Received, Sent, moving_to, needs, through_none, no_need, through_one, open_operations, operation_if};
+ghost use Rattle.rules.specs.Needs.{Received, Sent, listed_operation, moving_to, needs, through_none, no_need, through_one, open_operations, operation_if};
 ghost use Rattle.transfer.specs.Views.{need_of, needs_in, operation_list, through_of};
 
 use instruction_set::{Operand, Syscall};
-use rights::{Call, Fcntls, Op, OpenFlags, Position, Rights};
+use rights::{Call, Fcntls, Op, OpenFlags, Position, Rights, operation_of_use};
 
 /// What a call does with descriptors and the channel of a socket.
 #[derive(Clone, Copy)]
@@ -27,6 +28,8 @@ pub struct Need {
     pub rights: Rights,
     /// The fcntl commands that it needs.
     pub commands: Fcntls,
+    /// The further right that it needs.
+    pub further: Rights,
     /// What a limit keeps, which has to be there.
     pub kept_rights: Rights,
     pub kept_commands: Fcntls,
@@ -64,6 +67,7 @@ impl Need {
         Need {
             rights: Rights::empty(),
             commands: Fcntls::empty(),
+            further: Rights::empty(),
             kept_rights: Rights::empty(),
             kept_commands: Fcntls::empty(),
             works: false,
@@ -201,6 +205,24 @@ fn commanding(rights: Rights, commands: Fcntls) -> Need
     }
 }
 
+/// The need of a call that goes by a further right. (rights(4))
+fn using(rights: Rights, right: Rights) -> Need
+    ensures { need_of result ≡ record no_need {
+      rights = rights.0;
+      further = right.0;
+      works = is_some (operation_of_use right.0);
+      operations = listed_operation (operation_of_use right.0);
+    } }
+{
+    let operation = operation_of_use(right);
+    Need {
+        further: right,
+        works: operation.is_some(),
+        operation,
+        ..needing(rights)
+    }
+}
+
 /// The need of a limit that keeps these. (cap_rights_limit(2), cap_fcntls_limit(2))
 fn keeping(kept_rights: Rights, kept_commands: Fcntls) -> Need
     ensures { need_of result ≡ record no_need { kept_rights = kept_rights.0; kept_commands = kept_commands.0 } }
@@ -313,5 +335,6 @@ pub fn needed(call: &Syscall) -> Needs
         | Syscall::CapGetmode
         | Syscall::Socketpair
         | Syscall::Fork => none(),
+        Syscall::Use { descriptor, right } => one(*descriptor, using(rights, *right)),
     }
 }

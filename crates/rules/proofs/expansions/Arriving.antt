@@ -7,7 +7,7 @@ use Rattle.std.proofs.lemmas.Bool.{eqb-true, leb-true, ltb-true}
 use Rattle.std.proofs.lemmas.Bool.Decides.{nat_tests}
 use Rattle.rights.proofs.Tests.{both_left, both_right, not_true}
 use Rattle.rights.specs.Limits.{most_instructions, most_programs}
-use Rattle.certificate.specs.Bounds.{Bound, PointBound, Version, One, Two, Three, Certificate, bound_in, bound_at, with_interval, with_slot}
+use Rattle.certificate.specs.Bounds.{Bound, PointBound, Version, One, Two, Three, Four, Certificate, bound_in, bound_at, with_interval, with_slot}
 use Rattle.certificate.specs.Lines.{Line, Begins_block, Bounds_register, Bounds_slot, Bounds_channel, Begins_authority, Bounds_grant, Holds_end, is_line}
 use Rattle.certificate.specs.Growth.{IsCertificate, begins, grows, on_last, with_line}
 use Rattle.certificate.proofs.Growing.{both_true, taken-back}
@@ -15,7 +15,7 @@ use Rattle.std.proofs.lemmas.List.Folds.{list_all-append}
 use Rattle.instruction_set.specs.Programs.{Instruction, ends_well, is_instruction, is_program}
 use Rattle.task.specs.Plans.{NamedProgram, Plan, code_in, name_in, program_name, programs_of_plan}
 use Rattle.task.specs.Limits as limits
-use Rattle.task.specs.Limits.{all_apart, are_named_apart, are_grants, are_programs, are_starts, is_plan, is_tree}
+use Rattle.task.specs.Limits.{all_apart, are_named_apart, are_grants, are_programs, are_starts, has_valid_parts, is_in_language, is_plan, is_tree}
 use Rattle.rules.specs.Outcomes.{Outcome, is_followed, successes, successes_in, error_outcomes}
 use Rattle.rules.specs.Expansions.{or_carried, bound_met, bound_there, ExpansionBounds, names_point, may_carry, code_named, carried_to, expansion}
 use Rattle.rules.specs.Expansions as along
@@ -28,7 +28,8 @@ use Rattle.rules.proofs.expansions.Goes.{all_if, goes, or_right, successes_go, e
 programs_valid : (plan : Plan) → is_plan plan ≡ true → are_programs plan.programs ≡ true
 programs_valid plan valid =
     both_right (is_tree plan.nodes && are_grants plan.nodes plan.grants) (are_programs plan.programs)
-    (both_left (is_tree plan.nodes && are_grants plan.nodes plan.grants && are_programs plan.programs) (are_starts plan.nodes (length plan.programs) plan.starts) valid)
+    (both_left (is_tree plan.nodes && are_grants plan.nodes plan.grants && are_programs plan.programs) (are_starts plan.nodes (length plan.programs) plan.starts)
+    (both_left (has_valid_parts plan) (list_all (is_in_language plan.wide) plan.programs) valid))
 
 code_few : (programs : List NamedProgram) (name : List ℕ) → list_all limits.is_program_named programs ≡ true → length (code_named programs name) ≤ most_instructions
 unfolding code_named
@@ -130,6 +131,7 @@ named_not : (v : Version) (code : List Instruction) (n : ℕ) → list_any (name
 named_not One code n named = refl
 named_not Two code n named = not_carried_there code n named
 named_not Three code n named = not_carried_there code n named
+named_not Four code n named = not_carried_there code n named
 
 all_same : (test f g : Outcome → Bool) (outs : List Outcome) → list_all test outs ≡ true → ((o : Outcome) → test o ≡ true → f o ≡ g o) → list_all f outs ≡ list_all g outs
 all_same test f g [] all same = refl

@@ -2,10 +2,10 @@
 use Rattle.std.proofs.Common.{◌≡◌, ℕ, List, [], refl}
 use Rattle.std.specs.Prelude.{◌&&◌, not, Option, Some, None, if◌then◌else◌}
 use Rattle.std.specs.List.{flat_map, list_all}
-use Rattle.certificate.specs.Bounds.{Target, In_grant, Any_node, Socket, Unknown, Held, Bound, PointBound, Version, One, Two, Three, Certificate}
+use Rattle.certificate.specs.Bounds.{Target, In_grant, Any_node, Socket, Unknown, Held, Bound, PointBound, Version, One, Two, Three, Four, Certificate}
 use Rattle.rights.specs.Sides.{other_side}
 use Rattle.instruction_set.specs.Programs.{Syscall, Open, Openat, Read, Write, Sendfd, Recvfd, Lseek, Ftruncate, Fsync, Fstat, Fcntl_getfl, Fcntl_setfl, Fstatat, Stat, Mkdirat, Mkdir}
-use Rattle.instruction_set.specs.Programs.{Unlinkat, Unlink, Renameat, Dup, Close, Cap_rights_limit, Cap_fcntls_limit, Cap_enter, Cap_getmode, Socketpair, Fork, Instruction, Set, Mov}
+use Rattle.instruction_set.specs.Programs.{Unlinkat, Unlink, Renameat, Dup, Close, Cap_rights_limit, Cap_fcntls_limit, Cap_enter, Cap_getmode, Socketpair, Fork, Use as Call_use, Instruction, Set, Mov}
 use Rattle.instruction_set.specs.Programs.{Add, In, Jmp, Jeq, Jlt, Halt, Invoke}
 use Rattle.task.specs.Plans.{Grant, Plan}
 use Rattle.rules.specs.Slots.{OpenSlot, slots_in}
@@ -103,6 +103,7 @@ module _ (version : Version) (points : List PointBound) (c : Certificate) where
     call_same Cap_getmode = refl
     call_same Socketpair = refl
     call_same Fork = refl
+    call_same (Call_use x right) = refl
 
     pub instruction_same : (i : Instruction) → successes grants with_points name point b i ≡ successes grants c name point b i
     unfolding successes
@@ -127,6 +128,7 @@ module _ (plan : Plan) (c : Certificate) where
   channels-in One through = refl
   channels-in Two through = all_have_same One (expanded_points plan c) c through
   channels-in Three through = all_have_same c.version (expanded_points plan c) c through
+  channels-in Four through = all_have_same c.version (expanded_points plan c) c through
 
   pub expansion_channels : (through : List Use) → all_have_channels (expansion plan c) through ≡ all_have_channels c through
   expansion_channels through = channels-in c.version through
@@ -135,6 +137,7 @@ module _ (plan : Plan) (c : Certificate) where
   has-in One u p = refl
   has-in Two u p = has_channel_same One (expanded_points plan c) c u p
   has-in Three u p = has_channel_same c.version (expanded_points plan c) c u p
+  has-in Four u p = has_channel_same c.version (expanded_points plan c) c u p
 
   pub expansion_has : (u : Use) (p : Passing) → has_channel (expansion plan c) u p ≡ has_channel c u p
   expansion_has u p = has-in c.version u p
@@ -143,6 +146,7 @@ module _ (plan : Plan) (c : Certificate) where
   keeps-in One u p = refl
   keeps-in Two u p = keeps_same One (expanded_points plan c) c u p
   keeps-in Three u p = keeps_same c.version (expanded_points plan c) c u p
+  keeps-in Four u p = keeps_same c.version (expanded_points plan c) c u p
 
   pub expansion_keeps : (u : Use) (p : Passing) → keeps_channel_bound (expansion plan c) u p ≡ keeps_channel_bound c u p
   expansion_keeps u p = keeps-in c.version u p
@@ -152,6 +156,7 @@ module _ (plan : Plan) (c : Certificate) where
   successes-in One name point b i = refl
   successes-in Two name point b i = instruction_same One (expanded_points plan c) c plan.grants name point b i
   successes-in Three name point b i = instruction_same c.version (expanded_points plan c) c plan.grants name point b i
+  successes-in Four name point b i = instruction_same c.version (expanded_points plan c) c plan.grants name point b i
 
   pub expansion_successes : (name : List ℕ) (point : ℕ) (b : Bound) (i : Instruction)
       → successes plan.grants (expansion plan c) name point b i ≡ successes plan.grants c name point b i
@@ -168,6 +173,7 @@ module _ (plan : Plan) (c : Certificate) where
   without-in One program point = refl
   without-in Two program point = refl
   without-in Three program point = refl
+  without-in Four program point = refl
 
   pub expansion_without : (program point : ℕ) → tests_without plan (expansion plan c) program point ≡ tests_without plan c program point
   expansion_without program point = without-in c.version program point
@@ -178,6 +184,7 @@ module _ (plan : Plan) (c : Certificate) where
   marks-in One program point i b = refl
   marks-in Two program point i b = refl
   marks-in Three program point i b = refl
+  marks-in Four program point i b = refl
 
   pub expansion_marks : (program point : ℕ) (i : Instruction) (b : Bound)
       → mark_tests plan (expansion plan c) program point i b ≡ mark_tests plan c program point i b

@@ -6,7 +6,7 @@ use Rattle.std.specs.Str.{bytes_eq}
 use Rattle.std.proofs.lemmas.Bool.{eq-eqb, eqb-true, ltb-true}
 use Rattle.std.proofs.lemmas.Bool.Decides.{nat_tests}
 use Rattle.rights.proofs.Words.{same_bytes}
-use Rattle.certificate.specs.Bounds.{Bound, PointBound, Version, One, Two, Three, Certificate, bound_in, bound_at}
+use Rattle.certificate.specs.Bounds.{Bound, PointBound, Version, One, Two, Three, Four, Certificate, bound_in, bound_at}
 use Rattle.rights.specs.Limits.{most_instructions}
 use Rattle.instruction_set.specs.Programs.{Instruction}
 use Rattle.task.specs.Plans.{Plan}
@@ -223,6 +223,7 @@ module _ (plan : Plan) (c : Certificate) where
   may_not One code n past = refl
   may_not Two code n past = past_end code n past
   may_not Three code n past = past_end code n past
+  may_not Four code n past = past_end code n past
 
   not_carried : (name : List ℕ) (point : ℕ) (i : Option Instruction) (b : Option Bound) → may_carry c.version (code_named plan.programs name) (suc point) ≡ false
       → carried_by plan c name point i b ≡ None
@@ -267,6 +268,7 @@ module _ (plan : Plan) (c : Certificate) where
   expanded_there One name n is few high = sym (ap (or_carried (bound_at c name n)) (one_carries name n is) ∙ or_none (bound_at c name n))
   expanded_there Two name n is few high = there_of name n few high
   expanded_there Three name n is few high = there_of name n few high
+  expanded_there Four name n is few high = there_of name n few high
 
   -- THE EXPANSION bounds each point by what is given or carried there.
   pub expansion_there : (name : List ℕ) (n : ℕ) → length (code_named plan.programs name) ≤ most_instructions

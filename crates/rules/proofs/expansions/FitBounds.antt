@@ -1,14 +1,15 @@
 -- Bounds that fit a certificate: what instructions make of one, and joins of two.
 use Rattle.std.proofs.Common.{◌≡◌, ◌+◌, ◌++◌, ◌∷◌, [], Bool, true, false, ℕ, zero, suc, List, length, set, refl, ap, ◌∙◌, arith}
-use Rattle.std.specs.Prelude.{◌==◌, ◌&&◌, Option, Some, None, if◌then◌else◌}
+use Rattle.std.specs.Prelude.{◌==◌, ◌&&◌, map, Option, Some, None, if◌then◌else◌}
 use Rattle.std.specs.List.{flat_map, list_all}
 use Rattle.std.specs.Str.{bytes_eq}
 use Rattle.std.proofs.lemmas.Bool.{eq-eqb, eqb-true}
-use Rattle.std.proofs.lemmas.List.{length-set}
+use Rattle.std.proofs.lemmas.List.{length-map, length-set}
 use Rattle.std.proofs.lemmas.List.Folds.{list_all-append}
 use Rattle.rights.specs.Classes.{Class}
 use Rattle.rights.specs.Limits.{most_descriptors, register_count}
-use Rattle.certificate.specs.Bounds.{ModeBound, Interval, Target, In_grant, Any_node, Socket, Unknown, Held, Slot, Closed, Open, Maybe, Bound, ChannelBound, PointBound, held_in}
+use Rattle.certificate.specs.Bounds.{ModeBound, Interval, Target, In_grant, Any_node, Socket, Unknown, Held, Slot, Closed, Open, Maybe, Bound, ChannelBound, PointBound, Version, One, Two, Three, Four, held_in}
+use Rattle.certificate.specs.Told.{told_bound, untold_bound, untold_slot}
 use Rattle.certificate.specs.Bounds.{with_interval, with_slot, bound_in}
 use Rattle.certificate.specs.Growth.{programs_of_channel, programs_of_class, programs_of_held, programs_of_target}
 use Rattle.certificate.specs.Joins.{bound_join, each_join, interval_join, slot_join, target_join}
@@ -83,6 +84,34 @@ module _ (names : List (List ℕ)) where
         sixteen = ap (λ k. k == most_descriptors) (length-set b.slots n s) ∙ p.sixteen;
         slots = all_set (is_fit_slot names) b.slots n s p.slots own;
       })
+
+  -- as a certificate says it
+  fit_untold_slots : (slots : List Slot) → list_all (is_fit_slot names) slots ≡ true → list_all (is_fit_slot names) (map untold_slot slots) ≡ true
+  fit_untold_slots [] all = refl
+  fit_untold_slots (s ∷ slots) all =
+      both_true (is_fit_slot names (untold_slot s)) (list_all (is_fit_slot names) (map untold_slot slots))
+      (one s (and_left (is_fit_slot names s) (list_all (is_fit_slot names) slots) all))
+      (fit_untold_slots slots (and_right (is_fit_slot names s) (list_all (is_fit_slot names) slots) all))
+    where
+      one : (s : Slot) → is_fit_slot names s ≡ true → is_fit_slot names (untold_slot s) ≡ true
+      one Closed fit = fit
+      one (Open h) fit = fit
+      one (Maybe h) fit = fit
+
+  fit_untold : (b : Bound) → is_fit names b ≡ true → is_fit names (untold_bound b) ≡ true
+  fit_untold b fit =
+      let p : Parts b = parts b fit in
+      whole (untold_bound b) (record {
+        eight = p.eight;
+        sixteen = ap (λ n. n == most_descriptors) (length-map b.slots untold_slot) ∙ p.sixteen;
+        slots = fit_untold_slots b.slots p.slots;
+      })
+
+  pub fit_told : (v : Version) (b : Bound) → is_fit names b ≡ true → is_fit names (told_bound v b) ≡ true
+  fit_told One b fit = fit_untold b fit
+  fit_told Two b fit = fit_untold b fit
+  fit_told Three b fit = fit_untold b fit
+  fit_told Four b fit = fit
 
   pub fit_mode : (b : Bound) (mode : ModeBound) → is_fit names b ≡ true → is_fit names (record b { mode = mode }) ≡ true
   fit_mode b mode fit = fit

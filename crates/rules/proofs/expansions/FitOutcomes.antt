@@ -5,6 +5,7 @@ use Rattle.std.specs.Prelude.{◌==◌, ◌-◌, Option, Some, None, if◌then�
 use Rattle.std.specs.List.{flat_map, list_all}
 use Rattle.std.proofs.lemmas.List.Folds.{list_all-append}
 use Rattle.rights.specs.Classes.{Made_at}
+use Rattle.rights.specs.Uses.{acts_beneath}
 use Rattle.rights.specs.Limits.{most_bytes, most_processes}
 use Rattle.certificate.specs.Bounds.{On, Target, In_grant, Any_node, Socket, Unknown, Interval, interval, with_interval, Held, Closed, with_slot, Bound, Certificate}
 use Rattle.certificate.specs.Bounds as bounds
@@ -15,7 +16,7 @@ use Rattle.certificate.proofs.Fits.{is_fit}
 use Rattle.certificate.proofs.Growing.{and_left, and_right, both_true}
 use Rattle.rights.specs.Sides.{other_side}
 use Rattle.instruction_set.specs.Programs.{Operand, Syscall, Open, Openat, Read, Write, Sendfd, Recvfd, Lseek, Ftruncate, Fsync, Fstat, Fcntl_getfl, Fcntl_setfl, Fstatat, Stat, Mkdirat}
-use Rattle.instruction_set.specs.Programs.{Mkdir, Unlinkat, Unlink, Renameat, Dup, Close, Cap_rights_limit, Cap_fcntls_limit, Cap_enter, Cap_getmode, Socketpair, Fork, Instruction, Set}
+use Rattle.instruction_set.specs.Programs.{Mkdir, Unlinkat, Unlink, Renameat, Dup, Close, Cap_rights_limit, Cap_fcntls_limit, Cap_enter, Cap_getmode, Socketpair, Fork, Use as Call_use, Instruction, Set}
 use Rattle.instruction_set.specs.Programs.{Mov, Add, In, Jmp, Jeq, Jlt, Halt, Invoke}
 use Rattle.task.specs.Plans.{Grant}
 use Rattle.rules.specs.Carrying.{joined_at, joined_with}
@@ -133,6 +134,11 @@ module _ (names : List (List ℕ)) where
         (fit_interval names two 1 (only second)
         (fit_slot names one second other (fit_slot names b first nought fit mine) mine))
 
+    use_fits : (beneath : Bool) (x : Operand)
+        → all_fit (if beneath then gives_at_node grants c name point b x (leads_on grants c name point b b (only 0)) else gives_through grants c name point b x (only 0)) ≡ true
+    use_fits true x = at_node x (leads_on grants c name point b b (only 0)) (stays (only 0))
+    use_fits false x = gives x (only 0)
+
     call_fits : (call : Syscall) → all_fit (successes_of grants c name point b call) ≡ true
     call_fits (Open path f) = taking (all_held (target_of_path grants path)) (path_fit grants path)
     call_fits (Openat x path f) =
@@ -173,6 +179,7 @@ module _ (names : List (List ℕ)) where
     call_fits Socketpair =
         paired (free_numbers 2 b) (λ first second. leads_on grants c name point b (with_pair grants c name point b first second) (only first))
         (λ first second. ends first second)
+    call_fits (Call_use x right) = use_fits (acts_beneath right) x
     call_fits Fork =
         both_fit (leads_on grants c name point b b (only 0)) (leads_on grants c name point b b (from_to 1 (most_processes - 1))) (stays (only 0))
         (stays (from_to 1 (most_processes - 1)))

@@ -4,13 +4,14 @@ use Rattle.std.specs.Prelude.{◌==◌, ◌-◌, ◌||◌, Option, Some, None, i
 use Rattle.std.specs.List.{flat_map, list_all}
 use Rattle.std.proofs.lemmas.Bool.{eq-eqb}
 use Rattle.std.proofs.lemmas.List.Folds.{list_all-append}
+use Rattle.rights.specs.Uses.{acts_beneath}
 use Rattle.rights.specs.Limits.{most_bytes, most_processes}
 use Rattle.certificate.specs.Bounds.{On, Target, In_grant, Any_node, Socket, Unknown, Interval, interval, with_interval, Held, Closed, with_slot, Bound, Certificate}
 use Rattle.certificate.specs.Bounds as bounds
 use Rattle.certificate.proofs.Growing.{both_true}
 use Rattle.rights.specs.Sides.{other_side}
 use Rattle.instruction_set.specs.Programs.{Operand, Syscall, Open, Openat, Read, Write, Sendfd, Recvfd, Lseek, Ftruncate, Fsync, Fstat, Fcntl_getfl, Fcntl_setfl, Fstatat, Stat, Mkdirat}
-use Rattle.instruction_set.specs.Programs.{Mkdir, Unlinkat, Unlink, Renameat, Dup, Close, Cap_rights_limit, Cap_fcntls_limit, Cap_enter, Cap_getmode, Socketpair, Fork, Instruction, Set}
+use Rattle.instruction_set.specs.Programs.{Mkdir, Unlinkat, Unlink, Renameat, Dup, Close, Cap_rights_limit, Cap_fcntls_limit, Cap_enter, Cap_getmode, Socketpair, Fork, Use as Call_use, Instruction, Set}
 use Rattle.instruction_set.specs.Programs.{Mov, Add, In, Jmp, Jeq, Jlt, Halt, Invoke}
 use Rattle.task.specs.Plans.{Grant}
 use Rattle.rules.specs.Intervals.{only, sums, equal_part, other_part, lower_part, upper_part}
@@ -82,6 +83,11 @@ module _ (grants : List Grant) (c : Certificate) (name : List ℕ) (point : ℕ)
     at_node : (x : Operand) (rest : List Outcome) → list_all test rest ≡ true → list_all test (gives_at_node grants c name point b x rest) ≡ true
     at_node x rest all = each_slot x (λ (s : OpenSlot). if may_be_node s.held.target then rest else []) (λ s. all_if test (may_be_node s.held.target) rest all)
 
+    use_goes : (beneath : Bool) (x : Operand)
+        → list_all test (if beneath then gives_at_node grants c name point b x (leads_on grants c name point b b (only 0)) else gives_through grants c name point b x (only 0)) ≡ true
+    use_goes true x = at_node x (leads_on grants c name point b b (only 0)) (on b (only 0))
+    use_goes false x = gives x (only 0)
+
     call_goes : (call : Syscall) → list_all test (successes_of grants c name point b call) ≡ true
     call_goes (Open path f) = taking (all_held (target_of_path grants path))
     call_goes (Openat x path f) =
@@ -121,6 +127,7 @@ module _ (grants : List Grant) (c : Certificate) (name : List ℕ) (point : ℕ)
     call_goes Socketpair =
         paired (free_numbers 2 b) (λ first second. leads_on grants c name point b (with_pair grants c name point b first second) (only first))
         (λ first second. on (with_pair grants c name point b first second) (only first))
+    call_goes (Call_use x right) = use_goes (acts_beneath right) x
     call_goes Fork =
         both_lists test (leads_on grants c name point b b (only 0)) (leads_on grants c name point b b (from_to 1 (most_processes - 1))) (on b (only 0))
         (on b (from_to 1 (most_processes - 1)))

@@ -1,11 +1,11 @@
 -- The expansion of a certificate is what its own lines make of nothing.
 use Rattle.std.proofs.Common.{◌≡◌, ◌∷◌, [], Bool, true, false, ℕ, zero, suc, List, refl, ◌∙◌}
-use Rattle.std.specs.Prelude.{◌&&◌, Option, Some, None, if◌then◌else◌}
+use Rattle.std.specs.Prelude.{◌+◌, ◌&&◌, Option, Some, None, option_map, if◌then◌else◌}
 use Rattle.std.specs.List.{flat_map, list_all, slice_get}
 use Rattle.std.specs.Str.{bytes_eq}
 use Rattle.std.proofs.lemmas.List.Folds.{list_all-append}
 use Rattle.rights.specs.Limits.{most_instructions}
-use Rattle.certificate.specs.Bounds.{Bound, PointBound, Version, One, Two, Three, Certificate, bound_at}
+use Rattle.certificate.specs.Bounds.{Bound, PointBound, Version, One, Two, Three, Four, Certificate, bound_at}
 use Rattle.certificate.specs.Growth.{programs_named, programs_of_channel}
 use Rattle.certificate.proofs.Fewer.{are_among, is_among}
 use Rattle.certificate.proofs.Fits.{is_fit, is_fit_point}
@@ -14,11 +14,12 @@ use Rattle.certificate.proofs.Makes.{Fits, makes_itself}
 use Rattle.certificate.proofs.Whole.{fits_itself}
 use Rattle.instruction_set.specs.Programs.{Instruction}
 use Rattle.task.specs.Plans.{Plan}
-use Rattle.rules.specs.Carrying.{carried_on}
+use Rattle.certificate.specs.Told.{told_bound}
+use Rattle.rules.specs.Carrying.{carried_on, joined_at, outcomes}
 use Rattle.rules.specs.Outcomes.{is_followed, successes_in}
 use Rattle.rules.specs.Expansions.{ExpansionIsGrown, bound_with, carried_by, carried_past, code_at, expanded, expanded_points, expansion, may_carry, or_carried, points_along}
 use Rattle.rules.specs.Expansions.{programs_behind, programs_given, with_bound}
-use Rattle.rules.proofs.expansions.FitBounds.{fit_given, is_fit_bound}
+use Rattle.rules.proofs.expansions.FitBounds.{fit_given, fit_told, is_fit_bound}
 use Rattle.rules.proofs.expansions.FitOutcomes.{carried_fits}
 use Rattle.rules.proofs.expansions.RisingPoints.{expanded_rise}
 
@@ -48,6 +49,10 @@ module _ (names : List (List ℕ)) where
       (and_left (is_among names b.program) (is_fit names b.bound) (and_left (is_fit_point names b) (all_fit points) fit))
       (behind_among b.program points (and_right (is_fit_point names b) (all_fit points) fit))
 
+  told_fits : (v : Version) (o : Option Bound) → is_fit_bound names o ≡ true → is_fit_bound names (option_map (told_bound v) o) ≡ true
+  told_fits v None fit = refl
+  told_fits v (Some b) fit = fit_told names v b fit
+
   or_fits : (given carried : Option Bound) → is_fit_bound names given ≡ true → is_fit_bound names carried ≡ true
       → is_fit_bound names (or_carried given carried) ≡ true
   or_fits None carried fit other = other
@@ -63,7 +68,9 @@ module _ (names : List (List ℕ)) where
       by_fits point (Some i) (Some b) fit = go (may_carry c.version (code_at plan c name) (suc point))
         where
           go : (may : Bool) → is_fit_bound names (if may then carried_on plan c name point b i else None) ≡ true
-          go true = carried_fits names plan.grants c name point b fit own among (is_followed plan name i) i
+          go true =
+              told_fits c.version (joined_at (point + 1) None (outcomes plan c name point b i))
+              (carried_fits names plan.grants c name point b fit own among (is_followed plan name i) i)
           go false = refl
 
       with_fits : (point : ℕ) (carried : Option Bound) → is_fit_bound names carried ≡ true → is_fit_bound names (bound_with plan c name point carried) ≡ true
@@ -104,6 +111,14 @@ module _ (names : List (List ℕ)) where
 expanded_fits : (version : Version) (plan : Plan) (c : Certificate) (names : List (List ℕ)) → Fits names c → Fits names (expanded version plan c)
 expanded_fits One plan c names fits = fits
 expanded_fits Two plan c names fits = record {
+  few = fits.few;
+  fit = expanded_fit names plan c fits.fit fits.among;
+  up = expanded_rise plan c fits.up;
+  among = fits.among;
+  holders = fits.holders;
+  rest = fits.rest;
+}
+expanded_fits Four plan c names fits = record {
   few = fits.few;
   fit = expanded_fit names plan c fits.fit fits.among;
   up = expanded_rise plan c fits.up;

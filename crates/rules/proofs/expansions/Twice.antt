@@ -1,13 +1,14 @@
 -- An expansion is its own.
 use Rattle.std.proofs.Common.{◌≡◌, ◌≤◌, ◌<◌, ◌+◌, ℕ, zero, suc, Bool, true, false, List, [], ◌∷◌, ◌++◌, refl, ap, sym, ◌∙◌, arith}
-use Rattle.std.specs.Prelude.{◌==◌, ◌&&◌, Option, Some, None, is_some, if◌then◌else◌}
+use Rattle.std.specs.Prelude.{◌==◌, ◌&&◌, Option, Some, None, is_some, option_map, if◌then◌else◌}
 use Rattle.std.specs.List.{flat_map, list_all, slice_get}
 use Rattle.std.specs.Str.{bytes_eq}
 use Rattle.std.proofs.lemmas.Bool.{eq-eqb, eqb-true, ltb-true}
 use Rattle.std.proofs.lemmas.Bool.Decides.{nat_tests}
 use Rattle.rights.specs.Limits.{most_instructions}
-use Rattle.certificate.specs.Bounds.{Bound, PointBound, Version, One, Two, Three, Certificate, bound_in, bound_at}
+use Rattle.certificate.specs.Bounds.{Bound, PointBound, Version, One, Two, Three, Four, Certificate, bound_in, bound_at}
 use Rattle.certificate.specs.Growth.{IsCertificate}
+use Rattle.certificate.specs.Told.{told_bound}
 use Rattle.certificate.proofs.Growing.{and_left, and_right, both_true}
 use Rattle.instruction_set.specs.Programs.{Instruction}
 use Rattle.task.specs.Plans.{Plan}
@@ -34,7 +35,7 @@ module _ (plan : Plan) (c : Certificate) where
   carried_alike name point (Some i) None = refl
   carried_alike name point (Some i) (Some b) = λ k.
       if may_carry c.version (code_named plan.programs name) (suc point)
-      then joined_at (point + 1) None (followed_points c.version (expanded_points plan c) c plan name point b i k ++ error_outcomes b i)
+      then option_map (told_bound c.version) (joined_at (point + 1) None (followed_points c.version (expanded_points plan c) c plan name point b i k ++ error_outcomes b i))
       else None
 
   there_alike : (name : List ℕ) (n : ℕ) → n < most_instructions → carried_to plan written name n ≡ carried_to plan c name n
@@ -226,6 +227,9 @@ pub expanded_twice : (version : Version) (plan : Plan) (c : Certificate) → c.v
     → expansion plan (expanded version plan c) ≡ expanded version plan c
 expanded_twice One plan c is made = ap (λ version. expanded version plan c) is
 expanded_twice Two plan c is made = refl
+expanded_twice Four plan c is made =
+    ap (λ version. expanded version plan (record c { points = expanded_points plan c })) is
+    ∙ ap (λ points. record c { points = points }) (points_again plan c made)
 expanded_twice Three plan c is made =
     ap (λ version. expanded version plan (record c { points = expanded_points plan c })) is
     ∙ ap (λ points. record c { points = points }) (points_again plan c made)

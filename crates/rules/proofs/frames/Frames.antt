@@ -282,8 +282,8 @@ module _ (plan : Plan) (w v : World) (choice : Choice) (queue : QueueChange) (p 
 
   -- what a program may have it may have
   may_stay : (program : ℕ) (certificate : Certificate) (o : Object) (rights : ℕ)
-      → MayHave plan.grants (own_authority plan certificate program) (program_name plan program) (subject_of plan w.tree o) rights
-      → MayHave plan.grants (own_authority plan certificate program) (program_name plan program) (subject_of plan v.tree o) rights
+      → MayHave plan.wide plan.grants (own_authority plan certificate program) (program_name plan program) (subject_of plan w.tree o) rights
+      → MayHave plan.wide plan.grants (own_authority plan certificate program) (program_name plan program) (subject_of plan v.tree o) rights
   may_stay program certificate (At_node n access) rights is =
       record { name = is.name; holds = goes_on plan.grants w.tree v.tree frame.keeps.tree n is.name is.holds; below = is.below }
   may_stay program certificate (At_end pair side (Initial number)) rights is = is
@@ -293,7 +293,7 @@ module _ (plan : Plan) (w v : World) (choice : Choice) (queue : QueueChange) (p 
   pub within_stays : (certificate : Certificate) (program : ℕ) (d : Descriptor) → v.files.objects d.description ≡ w.files.objects d.description
       → IsWithinAuthority plan certificate w program d → IsWithinAuthority plan certificate v program d
   within_stays certificate program d same is =
-      subst (λ o. MayHave plan.grants (own_authority plan certificate program) (program_name plan program) (subject_of plan v.tree o) d.rights) (sym same)
+      subst (λ o. MayHave plan.wide plan.grants (own_authority plan certificate program) (program_name plan program) (subject_of plan v.tree o) d.rights) (sym same)
       (may_stay program certificate (w.files.objects d.description) d.rights is)
 
   pub entry_within : (certificate : Certificate) (program : ℕ) (o : Option Descriptor) → IsOther choice.first o → IsOther choice.second o

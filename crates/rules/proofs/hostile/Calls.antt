@@ -1,13 +1,15 @@
 -- Whatever call a process of a marked program makes in the mode, it does only what the program's authority allows.
-use Rattle.std.proofs.Common.{◌≡◌, ◌%◌, ◌<◌, ℕ, Bool, true, false, List, [], ◌∷◌, length, inl, inr, refl, ap, sym, ◌∙◌, subst}
-use Rattle.std.specs.Prelude.{◌==◌, ◌&&◌, not, nat_lt, nat_le, Option, Some, None, if◌then◌else◌}
+use Rattle.std.proofs.Common.{◌≡◌, ℕ, Bool, true, false, List, inl, inr, refl}
+use Rattle.std.specs.Prelude.{◌==◌, not, Option, Some, None, bit_or, if◌then◌else◌}
+use Rattle.std.specs.Cmp.Derive.{both_true}
 use Rattle.std.specs.List.{slice_get}
 use Rattle.rights.specs.Needs.{Second, needs_of}
 use Rattle.rights.specs.Opens.{OpenRequest, no_request}
 use Rattle.rights.specs.Operations.{operations_of_rights, Operation, Look, Read as Reads, Write as Writes, Create as Creates, Remove as Removes}
 use Rattle.rights.specs.Sets.{is_within, read_right, write_right, ftruncate_right, fstat_right, fstatat_right, mkdirat_right, unlinkat_right}
 use Rattle.rights.specs.Sets.{renameat_source_right, renameat_target_right}
-use Rattle.rights.proofs.Subsets.{is_within-trans}
+use Rattle.rights.specs.Uses.{companions_of, operation_of_use}
+use Rattle.rights.proofs.Subsets.{IsIn-or_right, is_within-from_members, is_within-trans}
 use Rattle.file_tree.specs.Nodes.{node}
 use Rattle.file_tree.specs.Places.{at_name}
 use Rattle.lookup.specs.Answers.{Keep, Follow, Found_node, Found_free, Not_found}
@@ -15,24 +17,26 @@ use Rattle.lookup.specs.Answers as lookups
 use Rattle.lookup.specs.Paths.{last_component}
 use Rattle.process.specs.State.{ProcessState}
 use Rattle.instruction_set.specs.Programs.{Operand, Syscall, Open, Openat, Read, Write, Sendfd, Recvfd, Lseek, Ftruncate, Fsync, Fstat, Fcntl_getfl, Fcntl_setfl, Fstatat, Stat, Mkdirat, Mkdir}
-use Rattle.instruction_set.specs.Programs.{Unlinkat, Unlink, Renameat, Dup, Close, Cap_rights_limit, Cap_fcntls_limit, Cap_enter, Cap_getmode, Socketpair, Fork, called}
+use Rattle.instruction_set.specs.Programs.{Unlinkat, Unlink, Renameat, Dup, Close, Cap_rights_limit, Cap_fcntls_limit, Cap_enter, Cap_getmode, Socketpair, Fork, Use, called}
 use Rattle.rights.specs.Sides.{other_side}
-use Rattle.fd_table.specs.Descriptions.{Access, At_node, Descriptor}
+use Rattle.fd_table.specs.Descriptions.{At_node, Descriptor}
 use Rattle.fd_table.specs.OpenFiles.{lowest_free}
 use Rattle.certificate.specs.Bounds.{Certificate}
 use Rattle.kernel.specs.World.{World, Choice}
-use Rattle.kernel.specs.Answers.{Answer, Effect, Event, Gives, Same_tree, Make, Remove, Move, Fill, gives, granted, same, value_of}
-use Rattle.kernel.specs.Calls.{answer, last_if, made_directory, moves, renamed_free, existing, renamed_over, renamed_to, stats, stats_at, unlinks, unlinks_as}
+use Rattle.kernel.specs.Answers.{Answer, Effect, Event, Gives, gives, granted, value_of}
+use Rattle.kernel.specs.Calls.{answer, effects_by, last_if, made_directory, moves, renamed_free, existing, renamed_over, renamed_to, stats_at, unlinks, unlinks_as}
 use Rattle.kernel.specs.Walks.{lookups_of}
-use Rattle.task.specs.Plans.{Plan}
+use Rattle.task.specs.Plans.{Plan, programs_of_plan}
 use Rattle.task.specs.Policies.{grant_holds}
 use Rattle.task.specs.Sandboxed.{Allowed, AreAllowed}
-use Rattle.rules.proofs.Members.{Among}
+use Rattle.rules.proofs.Members.{Among, each_of}
 use Rattle.rules.proofs.calls.OpenCalls.{reached_beneath}
 use Rattle.rules.proofs.findings.Findings.{FoundBeneath}
 use Rattle.rules.proofs.findings.LooksIn.{looks_beneath, looks_both}
 use Rattle.rules.proofs.frames.GrantPlaces.{IsDeepIn, deep_held, deep_move, deep_of}
+use Rattle.kernel.proofs.Spoken.{call_spoken}
 use Rattle.rules.proofs.hostile.Ceilings.{moves_in_one}
+use Rattle.rules.proofs.hostile.Unsaid.{beside_among, said_by_wide}
 use Rattle.rules.proofs.hostile.Confining.{Confines, Roams, by_object, does, fails, fitting, held_named, held_of, held_within, if_directory, if_file, if_held, if_lost, if_number}
 use Rattle.rules.proofs.hostile.Confining.{if_passed, if_socket, if_through, if_unrefused, never_outside, tree, walks, within}
 use Rattle.rules.proofs.hostile.Parts.{May, Under, fewer_may, gives_value, may, opens, pairs, reads, reads_end, receives, sends_end, sends_there, sets}
@@ -45,7 +49,7 @@ module _ (plan : Plan) (certificate : Certificate) (w : World) (e : Event) (s : 
 
   -- the descriptor of an operand is below a ceiling
   abbrev Below : ℕ → ℕ → Type 0
-  Below n rights = IsBelowCeiling plan.grants (own_authority plan certificate s.program) (node w.tree n).place rights
+  Below n rights = IsBelowCeiling plan.wide plan.grants (own_authority plan certificate s.program) (node w.tree n).place rights
 
   -- ## Lookups beneath a directory
   module _ (x : Operand) (path : List ℕ) (f : OpenRequest) (here : Under plan certificate w e s choice known (Openat x path f)) where
@@ -260,6 +264,22 @@ module _ (plan : Plan) (certificate : Certificate) (w : World) (e : Event) (s : 
         (held_of plan certificate w e.process s choice known call here (value_of s y) target other (At_node m second) is_too)
         (is_within-trans renameat_target_right _ target.rights refl has_too))))))))
 
+  -- what a call does that needs a further right
+  module _ (x : Operand) (right : ℕ) (here : Under plan certificate w e s choice known (Use x right)) where
+    use_allowed : (n rights : ℕ) → Below n rights → is_within (bit_or (companions_of right) right) rights ≡ true
+        → (o : Option Operation) → operation_of_use right ≡ o → AreAllowed plan.grants (effects_by o (node w.tree n).place)
+    use_allowed n rights below has None is = tt
+    use_allowed n rights below has (Some operation) is =
+        let one : Among (right, operation) operations_of_rights = beside_among operations_of_rights right operation is in
+        let some : not (is_within right 0) ≡ true = each_of (λ (row : ℕ × Operation). not (is_within row.0 0)) operations_of_rights refl (right, operation) one in
+        let wide : plan.wide ≡ true = call_spoken plan.wide (programs_of_plan plan) s (Use x right) known.code known.next here in
+        let own : is_within right (bit_or (companions_of right) right) ≡ true =
+        is_within-from_members right (bit_or (companions_of right) right) (λ k in_right. IsIn-or_right (companions_of right) right k in_right) in (
+          may plan certificate w e s choice known right operation one (both_true some (said_by_wide plan.wide right wide)) (node w.tree n).place (node w.tree n).place rights below
+              (is_within-trans right (bit_or (companions_of right) right) rights own has) (λ name held. held),
+          tt,
+        )
+
   -- ## Every call
   pub answer_may : (call : Syscall) (here : Under plan certificate w e s choice known call) → May plan certificate w e s choice known call here (answer w e.process s e call)
   unfolding answer
@@ -398,6 +418,24 @@ module _ (plan : Plan) (certificate : Certificate) (w : World) (e : Event) (s : 
   answer_may Cap_enter here = let call = Cap_enter in does plan certificate w e.process s choice known call here _ _ _ (record { allowed = tt; deep = tt; adds = tt; sends = tt })
   answer_may Cap_getmode here = let call = Cap_getmode in gives_value plan certificate w e s choice known call here _
   answer_may Socketpair here = let call = Socketpair in pairs plan certificate w e s choice known call here (lowest_free (w.files.table e.process))
+  answer_may (Use x right) here =
+      let call = Use x right in
+      if_passed plan certificate w e.process s choice known call here _ _ _ _ (λ outside.
+      if_through plan certificate w e.process s choice known call here x _ _ (λ d there has.
+      by_object plan certificate w e.process s choice known call here (w.files.objects d.description) _ _
+      (λ n access is. if_passed plan certificate w e.process s choice known call here _ _ _ _ (λ fits.
+      if_unrefused plan certificate w e.process s choice known call here e _ _
+      (does plan certificate w e.process s choice known call here _ _ _ (record {
+        allowed =
+            use_allowed x right here n d.rights (held_of plan certificate w e.process s choice known call here (value_of s x) d there (At_node n access) is) has
+            (operation_of_use right) refl;
+        deep = tt;
+        adds = tt;
+        sends = tt;
+      }))))
+      (λ pair side class is. if_passed plan certificate w e.process s choice known call here _ _ _ _ (λ fits.
+      if_unrefused plan certificate w e.process s choice known call here e _ _
+      (does plan certificate w e.process s choice known call here _ _ _ (record { allowed = tt; deep = tt; adds = tt; sends = tt }))))))
   answer_may Fork here =
       let call = Fork in
       if_passed plan certificate w e.process s choice known call here _ _ _ _

@@ -14,20 +14,22 @@ use Rattle.rights.proofs.Tests.{both_left, both_right, not_true}
 use Rattle.rights.proofs.Words.{same_bytes}
 use Rattle.rights.specs.Sides.{other_side}
 use Rattle.certificate.specs.Bounds.{Authority, Ceiling, Certificate, End, Held, In_grant, Any_node, Open, Socket, Target, Unknown}
-use Rattle.certificate.specs.Describes.{End_of, Holds, Node_at, Own_end, Seen, Subject, held_describes, target_describes}
-use Rattle.certificate.specs.Order.{held_within, same_class}
+use Rattle.certificate.specs.Describes.{End_of, Node_at, Own_end, Seen, Subject, held_describes, target_describes}
+use Rattle.certificate.specs.Order.{same_class}
 use Rattle.certificate.specs.OrderLaws.{class_is}
 use Rattle.certificate.proofs.Smaller.{between, slot_smaller}
-use Rattle.task.specs.Plans.{Grant, Plan, program_name}
+use Rattle.task.specs.Plans.{Plan, program_name}
 use Rattle.task.specs.Policies.{grant_holds, grant_lists}
 use Rattle.task.specs.Sandboxed.{Allowed}
 use Rattle.task.proofs.Allowances.{allowed_is_tested}
-use Rattle.rules.specs.Authority.{ceiling_in, is_widest, keeps_ceiling, keeps_moves, keeps_received, keeps_sent, lists_end, may_come, may_hold, may_hold_all, stays_in}
+use Rattle.rules.proofs.hostile.Unsaid.{asked_said, has_said, is_said}
+use Rattle.rights.specs.Uses.{asked_rights}
+use Rattle.rules.specs.Authority.{ceiling_in, most_in, is_widest, keeps_ceiling, lists_end, may_come, may_hold, may_hold_all, stays_in}
 use Rattle.rules.specs.Channels.{channel_at}
 use Rattle.rules.specs.Outcomes.{unknown_held}
 use Rattle.rules.proofs.Members.{Among, each_of}
 use Rattle.rules.proofs.outcomes.Outcomes.{unknown_described}
-use Rattle.rules.proofs.points.AskedCalls.{if_passes, not_both}
+use Rattle.rules.proofs.points.AskedCalls.{if_passes}
 use Rattle.rules.proofs.points.Known.{OneGrant, allowed_by}
 use Rattle.rules.proofs.points.Marked.{AuthorityAsked, Passing, any_found}
 use Rattle.rules.proofs.worlds.Invariant.{line_describes}
@@ -65,25 +67,33 @@ module _ (plan : Plan) (certificate : Certificate) (program : ℕ) (asked : Auth
   own = program_name plan program
 
   -- What a right lets do at a place in each grant that holds the descriptor's is allowed.
-  pub may_do : (right : ℕ) (operation : Operation) → Among (right, operation) operations_of_rights → is_within right 0 ≡ false → (from place : List (List ℕ)) (rights : ℕ)
-      → IsBelowCeiling plan.grants a from rights → is_within right rights ≡ true
+  pub may_do : (right : ℕ) (operation : Operation) → Among (right, operation) operations_of_rights → (not (is_within right 0) && is_said plan.wide right) ≡ true → (from place : List (List ℕ)) (rights : ℕ)
+      → IsBelowCeiling plan.wide plan.grants a from rights → is_within right rights ≡ true
       → ((name : List ℕ) → grant_holds plan.grants name from ≡ true → grant_holds plan.grants name place ≡ true) → Allowed plan.grants operation place
-  may_do right operation one some from place rights below has beneath =
-      let found = ceiling_of a.ceilings below.name right some (is_within-trans right rights (ceiling_in a.ceilings below.name) has below.below) in
+  may_do right operation one is from place rights below has beneath =
+      let some : is_within right 0 ≡ false = not_true (is_within right 0) (both_left (not (is_within right 0)) (is_said plan.wide right) is) in
+      let said : is_said plan.wide right ≡ true = both_right (not (is_within right 0)) (is_said plan.wide right) is in
+      let found = ceiling_of a.ceilings below.name right some
+      (has_said plan.wide right (ceiling_in a.ceilings below.name) said (is_within-trans right rights (most_in plan.wide a below.name) has below.below)) in
       let c : Ceiling = found.ceiling in
-      let kept = each_of (keeps_ceiling plan.grants) a.ceilings asked.ceilings c found.among in
-      let test : ℕ × Operation → Bool = λ (o : ℕ × Operation). not (is_within o.0 c.rights) || grant_lists plan.grants c.grant o.1 in
+      let kept = each_of (keeps_ceiling plan.wide plan.grants) a.ceilings asked.ceilings c found.among in
+      let test : ℕ × Operation → Bool = λ (o : ℕ × Operation). not (is_within o.0 (asked_rights plan.wide c.rights)) || grant_lists plan.grants c.grant o.1 in
       let listed : grant_lists plan.grants c.grant operation ≡ true =
-      if_passes (is_within right c.rights) _ (each_of test operations_of_rights kept (right, operation) one) found.has in
+      if_passes (is_within right (asked_rights plan.wide c.rights)) _ (each_of test operations_of_rights kept (right, operation) one)
+      (asked_said plan.wide right c.rights said found.has) in
       (allowed_is_tested plan.grants operation place).0
       (allowed_by plan.grants below.name operation place (beneath below.name below.holds) (subst (λ n. grant_lists plan.grants n operation ≡ true) found.of listed))
 
   -- What a node can be moved from, and into, is one grant.
-  pub moves_in_one : (from place : List (List ℕ)) (rights others : ℕ) → IsBelowCeiling plan.grants a from rights → is_within renameat_source_right rights ≡ true
-      → IsBelowCeiling plan.grants a place others → is_within renameat_target_right others ≡ true → OneGrant plan.grants from place
+  pub moves_in_one : (from place : List (List ℕ)) (rights others : ℕ) → IsBelowCeiling plan.wide plan.grants a from rights → is_within renameat_source_right rights ≡ true
+      → IsBelowCeiling plan.wide plan.grants a place others → is_within renameat_target_right others ≡ true → OneGrant plan.grants from place
   moves_in_one from place rights others source may target also =
-      let one = ceiling_of a.ceilings source.name renameat_source_right refl (is_within-trans renameat_source_right rights (ceiling_in a.ceilings source.name) may source.below) in
-      let two = ceiling_of a.ceilings target.name renameat_target_right refl (is_within-trans renameat_target_right others (ceiling_in a.ceilings target.name) also target.below) in
+      let one = ceiling_of a.ceilings source.name renameat_source_right refl
+      (has_said plan.wide renameat_source_right (ceiling_in a.ceilings source.name) refl
+      (is_within-trans renameat_source_right rights (most_in plan.wide a source.name) may source.below)) in
+      let two = ceiling_of a.ceilings target.name renameat_target_right refl
+      (has_said plan.wide renameat_target_right (ceiling_in a.ceilings target.name) refl
+      (is_within-trans renameat_target_right others (most_in plan.wide a target.name) also target.below)) in
       let rest = each_of (λ (c : Ceiling). list_all (stays_in c) a.ceilings) a.ceilings asked.moves one.ceiling one.among in
       let stays = each_of (stays_in one.ceiling) a.ceilings rest two.ceiling two.among in
       let both : (is_within renameat_source_right one.ceiling.rights && is_within renameat_target_right two.ceiling.rights) ≡ true = both_true one.has two.has in
@@ -112,15 +122,15 @@ module _ (plan : Plan) (certificate : Certificate) (program : ℕ) (asked : Auth
       }
 
   -- a descriptor of a slot that the program may have
-  pub held_may : (h : Held) (d : Seen) → held_describes (grant_holds plan.grants) h d ≡ true → may_hold_all a h ≡ true → MayHave plan.grants a own d.subject d.rights
+  pub held_may : (h : Held) (d : Seen) → held_describes (grant_holds plan.grants) h d ≡ true → may_hold_all plan.wide a h ≡ true → MayHave plan.wide plan.grants a own d.subject d.rights
   held_may h d is may =
       let facts = between (grant_holds plan.grants) h d is in
       by_target h.target d.subject facts.target may facts.greatest
     where
-      by_target : (t : Target) (x : Subject) → target_describes (grant_holds plan.grants) t x ≡ true → may_hold a t h.greatest ≡ true → is_within d.rights h.greatest ≡ true
-          → MayHave plan.grants a own x d.rights
+      by_target : (t : Target) (x : Subject) → target_describes (grant_holds plan.grants) t x ≡ true → may_hold plan.wide a t h.greatest ≡ true → is_within d.rights h.greatest ≡ true
+          → MayHave plan.wide plan.grants a own x d.rights
       by_target (In_grant g) (Node_at place) is may least =
-          record { name = g; holds = is; below = is_within-trans d.rights h.greatest (ceiling_in a.ceilings g) least may }
+          record { name = g; holds = is; below = is_within-trans d.rights h.greatest (most_in plan.wide a g) least may }
       by_target (In_grant g) (End_of class side) is may least = absurd cc
       by_target (In_grant g) (Own_end of side) is may least = absurd cc
       by_target Any_node x is may least = absurd cc
@@ -134,15 +144,15 @@ module _ (plan : Plan) (certificate : Certificate) (program : ℕ) (asked : Auth
 
   -- What comes by a listed end the program may have.
   pub may_receive : (class : Class) (side : ℕ) → lists_end a.holds class side ≡ true → (d : Seen)
-      → line_describes (grant_holds plan.grants) (channel_at certificate class (other_side side)) d ≡ true → MayHave plan.grants a own d.subject d.rights
+      → line_describes (grant_holds plan.grants) (channel_at certificate class (other_side side)) d ≡ true → MayHave plan.wide plan.grants a own d.subject d.rights
   may_receive class side is d comes =
       let end = listed class side is in
-      let kept = list_all-slice_get (λ (held : End). may_come a (channel_at certificate held.class (other_side held.side))) a.holds end.number end.held asked.received end.there in
+      let kept = list_all-slice_get (λ (held : End). may_come plan.wide a (channel_at certificate held.class (other_side held.side))) a.holds end.number end.held asked.received end.there in
       by_line (channel_at certificate class (other_side side))
-      (subst (λ n. may_come a (channel_at certificate class (other_side n)) ≡ true) end.of_side
-      (subst (λ c. may_come a (channel_at certificate c (other_side end.held.side)) ≡ true) end.of_class kept)) comes
+      (subst (λ n. may_come plan.wide a (channel_at certificate class (other_side n)) ≡ true) end.of_side
+      (subst (λ c. may_come plan.wide a (channel_at certificate c (other_side end.held.side)) ≡ true) end.of_class kept)) comes
     where
-      by_line : (line : Option (Option Held)) → may_come a line ≡ true → line_describes (grant_holds plan.grants) line d ≡ true → MayHave plan.grants a own d.subject d.rights
+      by_line : (line : Option (Option Held)) → may_come plan.wide a line ≡ true → line_describes (grant_holds plan.grants) line d ≡ true → MayHave plan.wide plan.grants a own d.subject d.rights
       by_line None may comes = absurd cc
       by_line (Some None) may comes = absurd cc
       by_line (Some (Some h)) may comes = held_may h d comes may

@@ -1,15 +1,16 @@
 -- What is known of a process of a marked program in the mode before a step, and what its calls may come to.
-use Rattle.std.proofs.Common.{◌≡◌, ◌≢◌, ℕ, Bool, true, false, List, [], ◌∷◌, refl, ap, sym, ◌∙◌, subst}
+use Rattle.std.proofs.Common.{◌≡◌, ◌≢◌, ℕ, Bool, true, false, List, refl, ap, sym, ◌∙◌, subst}
 use Rattle.std.specs.Prelude.{not, Option, Some, None, if◌then◌else◌}
-use Rattle.rights.specs.Errors.{Errno, Cause, EAGAIN, ECAPMODE, EINVAL, ENOTDIR, ENOTSOCK, CapMode, Refused}
+use Rattle.rights.specs.Errors.{Errno, Cause, ECAPMODE, EINVAL, ENOTDIR, CapMode, Refused}
 use Rattle.rights.specs.Errors as errors
 use Rattle.rights.specs.Sets.{is_within}
 use Rattle.file_tree.specs.Nodes.{node, is_dir, is_file}
 use Rattle.file_tree.specs.WellFormed.{IsTree}
 use Rattle.lookup.specs.Answers.{LookupFault}
 use Rattle.process.specs.State.{ProcessState, Walking}
+use Rattle.instruction_set.specs.Languages.{are_spoken}
 use Rattle.instruction_set.specs.Programs.{Operand, Syscall}
-use Rattle.fd_table.specs.Descriptions.{PairClass, Made_by, Access, Object, At_node, At_end, Descriptor, Message, IfHeld}
+use Rattle.fd_table.specs.Descriptions.{PairClass, Made_by, Access, Object, At_node, At_end, Descriptor, IfHeld}
 use Rattle.certificate.specs.Bounds.{Authority, Certificate}
 use Rattle.kernel.specs.World.{World, Choice}
 use Rattle.kernel.specs.Answers.{Event, Effect, TreeChange, TableChange, Same_table, Set_entry, Clear_entry, New_file, New_pair, New_process, QueueChange, Same_queue, Push, Pop, Change}
@@ -20,6 +21,7 @@ use Rattle.kernel.specs.Walks.{FitsIfWalking, lookups_of, under_way}
 use Rattle.kernel.specs.WellFormed.{IsDescriptor}
 use Rattle.kernel.proofs.KeptWalks.{walk_fits}
 use Rattle.kernel.proofs.Looking.{fault_any}
+use Rattle.kernel.proofs.Spoken.{IsSpokenDeed}
 use Rattle.task.specs.Plans.{Plan, program_name, programs_of_plan}
 use Rattle.task.specs.Sandboxed.{AreAllowed}
 use Rattle.rules.proofs.frames.ChangeKinds.{Acts}
@@ -39,6 +41,8 @@ pub record Roams (plan : Plan) (certificate : Certificate) (w : World) (p : ℕ)
   pub marked : s.marked ≡ true
   pub mode : s.mode ≡ true
   pub asked : AuthorityAsked plan certificate s.program
+  pub code : are_spoken plan.wide (programs_of_plan plan s.program) ≡ true
+  pub next : IsSpokenDeed plan.wide s.kept
 
 module _ (plan : Plan) (certificate : Certificate) (w : World) (p : ℕ) (s : ProcessState) (choice : Choice) (known : Roams plan certificate w p s choice) where
   abbrev pub a : Authority
@@ -60,7 +64,7 @@ module _ (plan : Plan) (certificate : Certificate) (w : World) (p : ℕ) (s : Pr
   Adds tree Same_table = Unit {0}
   Adds tree (Set_entry number d) = IsNamed w choice known.inv.classes d × IsWithinAuthority plan certificate w s.program d
   Adds tree (Clear_entry number) = Unit {0}
-  Adds tree (New_file number n access append rights fcntls) = IsBelowCeiling plan.grants (own_authority plan certificate s.program) (node (tree_after w.tree tree) n).place rights
+  Adds tree (New_file number n access append rights fcntls) = IsBelowCeiling plan.wide plan.grants (own_authority plan certificate s.program) (node (tree_after w.tree tree) n).place rights
   Adds tree (New_pair first second class) = class ≡ Made_by s.program
   Adds tree New_process = Unit {0}
 
@@ -192,6 +196,6 @@ module _ (plan : Plan) (certificate : Certificate) (w : World) (p : ℕ) (s : Pr
 
     -- of a node it is below a ceiling, and of an end what its program may have
     pub held_of : (n : ℕ) (d : Descriptor) → w.files.table p n ≡ Some d → (o : Object) → w.files.objects d.description ≡ o
-        → MayHave plan.grants (own_authority plan certificate s.program) (program_name plan s.program) (subject_of plan w.tree o) d.rights
+        → MayHave plan.wide plan.grants (own_authority plan certificate s.program) (program_name plan s.program) (subject_of plan w.tree o) d.rights
     held_of n d there o is =
-        subst (λ x. MayHave plan.grants (own_authority plan certificate s.program) (program_name plan s.program) (subject_of plan w.tree x) d.rights) is (held_within n d there)
+        subst (λ x. MayHave plan.wide plan.grants (own_authority plan certificate s.program) (program_name plan s.program) (subject_of plan w.tree x) d.rights) is (held_within n d there)

@@ -1,6 +1,6 @@
 -- A process of a marked program enters the mode: what it holds then its program may have.
-use Rattle.std.proofs.Common.{◌≡◌, ℕ, zero, suc, ◌+◌, ◌≤◌, Bool, true, false, List, [], ◌∷◌, refl, arith, ap, sym, ◌∙◌, subst, length}
-use Rattle.std.specs.Prelude.{◌&&◌, ◌||◌, not, slice_index_or, Option, Some, None}
+use Rattle.std.proofs.Common.{◌≡◌, ℕ, zero, suc, ◌+◌, ◌≤◌, Bool, true, false, List, [], ◌∷◌, refl, arith, ap, sym, subst}
+use Rattle.std.specs.Prelude.{◌||◌, Option, Some, None}
 use Rattle.std.specs.List.{list_all}
 use Rattle.std.specs.Option.{option_map}
 use Rattle.std.specs.Cmp.Derive.{both_true}
@@ -8,16 +8,15 @@ use Rattle.rights.proofs.Tests.{both_left, both_right}
 use Rattle.process.specs.State.{ProcessState}
 use Rattle.instruction_set.specs.Programs.{Instruction, Set, Mov, Add, In, Jmp, Jeq, Jlt, Halt, Invoke, Open, Openat, Read, Write, Sendfd, Recvfd, Lseek, Ftruncate, Fsync, Fstat, Fcntl_getfl}
 use Rattle.instruction_set.specs.Programs.{Fcntl_setfl, Fstatat, Stat, Mkdirat, Mkdir, Unlinkat, Unlink, Renameat, Dup, Close, Cap_rights_limit, Cap_fcntls_limit}
-use Rattle.instruction_set.specs.Programs.{Cap_enter, Cap_getmode, Socketpair, Fork}
+use Rattle.instruction_set.specs.Programs.{Cap_enter, Cap_getmode, Socketpair, Fork, Use as Call_use}
 use Rattle.fd_table.specs.Descriptions.{Descriptor, IfHeld}
-use Rattle.certificate.specs.Bounds.{Authority, Bound, Certificate, Closed, Maybe, Open as Open_slot, Slot, slot}
-use Rattle.certificate.specs.Describes.{Seen, slot_describes}
+use Rattle.certificate.specs.Bounds.{Authority, Certificate, Closed, Maybe, Open as Open_slot, Slot, slot}
+use Rattle.certificate.specs.Describes.{slot_describes}
 use Rattle.kernel.specs.World.{World, Choice}
 use Rattle.kernel.specs.Answers.{Change, Event, Same_tree, Same_queue, Same_state}
 use Rattle.kernel.specs.Calls.{answer}
 use Rattle.kernel.specs.Changes.{given, files_after, changed}
 use Rattle.kernel.specs.Steps.{answered, executed}
-use Rattle.kernel.specs.WellFormed.{IsWellFormed}
 use Rattle.task.specs.Plans.{Plan}
 use Rattle.task.specs.Policies.{grant_holds}
 use Rattle.rules.specs.Authority.{may_have_slot}
@@ -70,18 +69,19 @@ entering (Invoke (Cap_rights_limit x rights) otherwise) is = absurd cc
 entering (Invoke (Cap_fcntls_limit x commands) otherwise) is = absurd cc
 entering (Invoke Cap_getmode otherwise) is = absurd cc
 entering (Invoke Socketpair otherwise) is = absurd cc
+entering (Invoke (Call_use x right) otherwise) is = absurd cc
 entering (Invoke Fork otherwise) is = absurd cc
 entering (Invoke Cap_enter otherwise) is = (otherwise, refl)
 
 -- each slot of a list, and what is past its end
-all_slots : (a : Authority) (slots : List Slot) (n : ℕ) → list_all (may_have_slot a) slots ≡ true → may_have_slot a (slot slots n) ≡ true
-all_slots a [] n all = refl
-all_slots a (x ∷ slots) zero all = both_left _ (list_all (may_have_slot a) slots) all
-all_slots a (x ∷ slots) (suc n) all = all_slots a slots n (both_right (may_have_slot a x) _ all)
+all_slots : (wide : Bool) (a : Authority) (slots : List Slot) (n : ℕ) → list_all (may_have_slot wide a) slots ≡ true → may_have_slot wide a (slot slots n) ≡ true
+all_slots wide a [] n all = refl
+all_slots wide a (x ∷ slots) zero all = both_left _ (list_all (may_have_slot wide a) slots) all
+all_slots wide a (x ∷ slots) (suc n) all = all_slots wide a slots n (both_right (may_have_slot wide a x) _ all)
 
 module _ (plan : Plan) (certificate : Certificate) (w : World) (e : Event) (s : ProcessState) (choice : Choice) (acts : Acts plan w e.process s choice)
     (inv : Invariant plan (bounds plan certificate) w) (marked : s.marked ≡ true) (asked : AuthorityAsked plan certificate s.program)
-    (lives : IsDescribed plan certificate w e.process s) (may : list_all (may_have_slot (own_authority plan certificate s.program)) lives.bound.slots ≡ true) where
+    (lives : IsDescribed plan certificate w e.process s) (may : list_all (may_have_slot plan.wide (own_authority plan certificate s.program)) lives.bound.slots ≡ true) where
   within : IsTableWithin plan certificate w e.process s.program
   within n =
       let holds = grant_holds plan.grants in
@@ -90,9 +90,9 @@ module _ (plan : Plan) (certificate : Certificate) (w : World) (e : Event) (s : 
       let P : ℕ → Type 0 = λ k. slot_describes holds (slot lives.bound.slots n) (table_seen plan w e.process k) ≡ true in
       let same : 0 + n ≡ n = omega arith in
       let here : P n = subst P same (slot_at holds 0 lives.bound.slots (table_seen plan w e.process) inside.slots few n) in
-      entry (w.files.table e.process n) (slot lives.bound.slots n) (all_slots (own_authority plan certificate s.program) lives.bound.slots n may) here
+      entry (w.files.table e.process n) (slot lives.bound.slots n) (all_slots plan.wide (own_authority plan certificate s.program) lives.bound.slots n may) here
     where
-      entry : (o : Option Descriptor) (x : Slot) → may_have_slot (own_authority plan certificate s.program) x ≡ true
+      entry : (o : Option Descriptor) (x : Slot) → may_have_slot plan.wide (own_authority plan certificate s.program) x ≡ true
           → slot_describes (grant_holds plan.grants) x (option_map (seen_of plan w) o) ≡ true → IfHeld (IsWithinAuthority plan certificate w s.program) o
       entry None x allowed here = tt
       entry (Some d) Closed allowed here = absurd cc

@@ -1,20 +1,20 @@
 -- What a process of a marked program leaves that does anything in the mode.
-use Rattle.std.proofs.Common.{◌≡◌, ◌≢◌, ℕ, ◌<◌, Bool, true, false, List, [], ◌∷◌, length, refl, arith, ap, sym, ◌∙◌, subst}
-use Rattle.std.specs.Prelude.{◌&&◌, ◌||◌, ◌==◌, nat_lt, Option, Some, None}
+use Rattle.std.proofs.Common.{◌≡◌, ◌≢◌, ℕ, ◌<◌, Bool, true, false, List, length, refl, arith, ap, sym, ◌∙◌, subst}
+use Rattle.std.specs.Prelude.{◌==◌, nat_lt, Option, Some, None}
 use Rattle.std.specs.Cmp.Derive.{both_true}
 use Rattle.std.specs.List.{slice_get}
 use Rattle.std.proofs.lemmas.Option.{slice_get_within}
-use Rattle.rights.specs.Sets.{all_rights, all_commands}
+use Rattle.rights.specs.Sets.{all_rights}
 use Rattle.process.specs.State.{Deed, ProcessState, Walking, forked, left_by}
 use Rattle.instruction_set.specs.Programs.{Instruction, Set, Mov, Add, In, Jmp, Jeq, Jlt, Halt, Invoke, Syscall}
-use Rattle.fd_table.specs.Descriptions.{PairClass, Initial, Made_at, Made_by, Object, At_node, At_end, Descriptor, descriptor_of, IfHeld}
+use Rattle.fd_table.specs.Descriptions.{PairClass, Initial, Made_at, Made_by, Object, At_end, Descriptor, IfHeld}
 use Rattle.certificate.specs.Bounds.{Certificate}
 use Rattle.kernel.specs.World.{World, Choice}
 use Rattle.kernel.specs.Answers.{Effect, Event, TreeChange, TableChange, Same_table, Set_entry, Clear_entry, New_file, New_pair, New_process, QueueChange, Same_queue, Push, Pop, Change, Answer}
 use Rattle.kernel.specs.Answers.{Fails, Waits, Gives, Walks}
 use Rattle.kernel.specs.Calls.{answer}
 use Rattle.kernel.specs.Changes.{objects_after, table_after, tree_after, given, files_after, changed}
-use Rattle.kernel.specs.Steps.{Executed, LineResult, after_deed, answered, executed, failed, goes_on, jumped, register, with_process}
+use Rattle.kernel.specs.Steps.{Executed, LineResult, after_deed, answered, executed, failed, jumped, register, with_process}
 use Rattle.kernel.specs.Walks.{call_in, under_way}
 use Rattle.kernel.proofs.Deeds.{IsLike, after_keeps, after_other, each_executed}
 use Rattle.kernel.proofs.Points.{still_on}
@@ -30,7 +30,7 @@ use Rattle.rules.proofs.hostile.Calls.{answer_may}
 use Rattle.rules.proofs.hostile.Confining.{Adds, Confines, MayDo, Roams, Sends, SendsThere, free, table_within}
 use Rattle.rules.proofs.worlds.Invariant.{Carries, IfAlive, IsCarried, IsLiving, LivesBy, is_free, bounds}
 use Rattle.rules.specs.Seen.{subject_of}
-use Rattle.rules.proofs.worlds.Walks.{IsWalkerIn, WalkIn, WalksIn, rests}
+use Rattle.rules.proofs.worlds.Walks.{WalksIn, rests}
 use Rattle.rules.specs.Within.{IsTableWithin, IsWithinAuthority, MayHave, own_authority}
 
 -- what it does is allowed, and it leaves what it must
@@ -73,18 +73,18 @@ module _ (plan : Plan) (certificate : Certificate) (w : World) (e : Event) (s : 
     -- what comes into the table is of what its program may have
     of_new : (tree : TreeChange) (table : TableChange) → Adds plan certificate w e.process s choice known tree table
         → ((d : Descriptor) → IsNamed w choice known.inv.classes d → IsWithinAuthority plan certificate w s.program d
-        → MayHave plan.grants (own_authority plan certificate s.program) (program_name plan s.program)
+        → MayHave plan.wide plan.grants (own_authority plan certificate s.program) (program_name plan s.program)
         (subject_of plan (tree_after w.tree tree) (objects_after w.files.objects choice table d.description)) d.rights)
-        → OfNew (λ d. MayHave plan.grants (own_authority plan certificate s.program) (program_name plan s.program)
+        → OfNew (λ d. MayHave plan.wide plan.grants (own_authority plan certificate s.program) (program_name plan s.program)
         (subject_of plan (tree_after w.tree tree) (objects_after w.files.objects choice table d.description)) d.rights) choice table
     of_new tree Same_table adds later = tt
     of_new tree (Set_entry number d) adds later = later d adds.0 adds.1
     of_new tree (Clear_entry number) adds later = tt
     of_new tree (New_file number n access append rights fcntls) adds later =
-        subst (λ o. MayHave plan.grants (own_authority plan certificate s.program) (program_name plan s.program) (subject_of plan (tree_after w.tree tree) o) rights)
+        subst (λ o. MayHave plan.wide plan.grants (own_authority plan certificate s.program) (program_name plan s.program) (subject_of plan (tree_after w.tree tree) o) rights)
         (sym (file_object w.files.objects choice number n access append rights fcntls)) adds
     of_new tree (New_pair first second class) adds later =
-        let Has : Object → Type 0 = λ o. MayHave plan.grants (own_authority plan certificate s.program) (program_name plan s.program) (subject_of plan (tree_after w.tree tree) o) all_rights in (
+        let Has : Object → Type 0 = λ o. MayHave plan.wide plan.grants (own_authority plan certificate s.program) (program_name plan s.program) (subject_of plan (tree_after w.tree tree) o) all_rights in (
           subst Has (sym (first_object w.files.objects choice first second class known.acts.fresh.apart)) (subst (λ c. Has (At_end choice.pair 0 c)) (sym adds) refl),
           subst Has (sym (second_object w.files.objects choice first second class)) (subst (λ c. Has (At_end choice.pair 1 c)) (sym adds) refl),
         )

@@ -1,49 +1,41 @@
 -- What parts of calls may come to that a process of a marked program makes in the mode.
-use Rattle.std.proofs.Common.{◌≡◌, ◌≢◌, ◌%◌, ◌<◌, ℕ, Bool, true, false, List, [], ◌∷◌, length, inl, inr, refl, ap, sym, ◌∙◌, subst}
-use Rattle.std.specs.Prelude.{◌==◌, ◌&&◌, not, nat_lt, nat_le, Option, Some, None, if◌then◌else◌}
-use Rattle.std.specs.List.{slice_get}
+use Rattle.std.proofs.Common.{◌≡◌, ◌≢◌, ◌<◌, ℕ, Bool, true, false, List, [], ◌∷◌, length, inl, inr, refl, ap, sym, subst}
+use Rattle.std.specs.Prelude.{◌&&◌, not, Option, Some, None, if◌then◌else◌}
 use Rattle.rights.specs.Classes as classes
-use Rattle.rights.specs.Limits.{most_nodes}
 use Rattle.rights.specs.Needs.{openat_needs}
 use Rattle.rights.specs.Opens.{OpenRequest, open_request}
-use Rattle.rights.specs.Operations.{operations_of_rights, Operation, Look, Read as Reads, Write as Writes, Create as Creates, Remove as Removes}
-use Rattle.rights.specs.Sets.{all_rights, all_commands, is_within, read_right, write_right, ftruncate_right, fstat_right, create_right, fstatat_right, mkdirat_right, unlinkat_right}
-use Rattle.rights.specs.Sets.{renameat_source_right, renameat_target_right}
+use Rattle.rights.specs.Operations.{operations_of_rights, Operation, Read as Reads, Write as Writes, Create as Creates}
+use Rattle.rights.specs.Sets.{all_rights, all_commands, is_within, ftruncate_right, create_right}
 use Rattle.rights.proofs.Subsets.{is_within-trans}
-use Rattle.file_tree.specs.Nodes.{Kind, File, Dir, Link, Node, has_below, is_dir, node}
-use Rattle.file_tree.specs.Places.{at_name, begins}
-use Rattle.lookup.specs.Answers.{Beneath, Keep, Follow, Found_node, Found_free, Not_found}
+use Rattle.file_tree.specs.Nodes.{Kind, File, Dir, Link, Node, node}
+use Rattle.file_tree.specs.Places.{at_name}
+use Rattle.lookup.specs.Answers.{Found_node, Found_free, Not_found}
 use Rattle.lookup.specs.Answers as lookups
 use Rattle.lookup.specs.Paths.{last_component}
 use Rattle.process.specs.State.{ProcessState}
-use Rattle.instruction_set.specs.Programs.{Operand, Syscall, Open, Openat, Read, Write, Sendfd, Recvfd, Lseek, Ftruncate, Fsync, Fstat, Fcntl_getfl, Fcntl_setfl, Fstatat, Stat, Mkdirat, Mkdir}
-use Rattle.instruction_set.specs.Programs.{Unlinkat, Unlink, Renameat, Dup, Close, Cap_rights_limit, Cap_fcntls_limit, Cap_enter, Cap_getmode, Socketpair, Fork}
+use Rattle.instruction_set.specs.Programs.{Syscall}
 use Rattle.rights.specs.Sides.{other_side}
-use Rattle.fd_table.specs.Descriptions.{PairClass, Initial, Made_at, Made_by, Access, At_node, At_end, Descriptor, Message, IfHeld}
+use Rattle.fd_table.specs.Descriptions.{PairClass, Initial, Made_at, Made_by, At_end, Descriptor, Message, IfHeld}
 use Rattle.certificate.specs.Bounds.{Certificate}
 use Rattle.kernel.specs.World.{World, Choice}
 use Rattle.certificate.specs.Describes.{End_of, Node_at, Own_end, Subject}
-use Rattle.kernel.specs.Answers.{Answer, Event, Gives, Set_entry, same, value_of}
-use Rattle.kernel.specs.Calls.{answer, last_if, made_directory, opened, opened_as, own_class, pair_at, read_byte, read_end, receive_end, received, renamed_free}
-use Rattle.kernel.specs.Calls.{existing, renamed_over, renamed_to}
-use Rattle.kernel.specs.Calls.{sent_end, stats_at, truncated, truncates, unlinks, unlinks_as}
-use Rattle.kernel.specs.Walks.{lookups_of, under_way}
+use Rattle.kernel.specs.Answers.{Answer, Event, Gives, Set_entry, same}
+use Rattle.kernel.specs.Calls.{opened, opened_as, pair_at, read_byte, read_end, receive_end, received}
+use Rattle.kernel.specs.Calls.{sent_end, truncates}
+use Rattle.kernel.specs.Walks.{under_way}
 use Rattle.task.specs.Plans.{Plan, program_name, programs_of_plan}
 use Rattle.task.specs.Policies.{grant_holds}
 use Rattle.task.specs.Sandboxed.{Allowed, AreAllowed}
 use Rattle.rules.specs.Authority.{authority_at}
 use Rattle.rules.proofs.Members.{Among}
-use Rattle.rules.proofs.calls.OpenCalls.{IsBeside, IsReached, deep_truncated, last_node, reached_beneath, truncated_place}
-use Rattle.rules.proofs.findings.Findings.{FoundBeneath}
-use Rattle.rules.proofs.findings.LooksIn.{looks_beneath, looks_both}
+use Rattle.rules.proofs.calls.OpenCalls.{IsBeside, IsReached, deep_truncated, last_node, truncated_place}
 use Rattle.rules.proofs.frames.Arrivals.{named_end}
 use Rattle.rules.proofs.frames.Bounded.{front_carried}
-use Rattle.rules.proofs.frames.GrantPlaces.{IsDeepIn, deep_held, deep_move, deep_of}
 use Rattle.rules.proofs.frames.PairClasses.{IsNamed}
-use Rattle.rules.proofs.hostile.Ceilings.{may_do, may_receive, may_send, moves_in_one}
-use Rattle.rules.proofs.hostile.Confining.{Confines, MayDo, Roams, SendsThere, by_object, does, fails, fitting, free, held_formed, held_named, held_of, held_within}
-use Rattle.rules.proofs.hostile.Confining.{if_blocked, if_directory, if_file, if_held, if_lost, if_number, if_passed, if_so, if_socket, if_through, if_unrefused, never_outside, tree, walks, within}
-use Rattle.rules.proofs.points.Known.{OneGrant}
+use Rattle.rules.proofs.hostile.Unsaid.{is_said}
+use Rattle.rules.proofs.hostile.Ceilings.{may_do, may_receive, may_send}
+use Rattle.rules.proofs.hostile.Confining.{Confines, Roams, SendsThere, does, fails, free, held_formed, held_named, held_of, held_within}
+use Rattle.rules.proofs.hostile.Confining.{if_blocked, if_lost, if_number, if_passed, if_so, if_unrefused, tree}
 use Rattle.rules.proofs.worlds.Invariant.{Carries, bounds}
 use Rattle.rules.specs.Seen.{seen_of, subject_of}
 use Rattle.rules.specs.Within.{IsBelowCeiling, IsWithinAuthority, MayHave, own_authority}
@@ -122,8 +114,8 @@ pub fewer_may : (plan : Plan) (certificate : Certificate) (w : World) (program :
     → IsWithinAuthority plan certificate w program (record d { rights = rights })
 fewer_may plan certificate w program d rights less is = go (subject_of plan w.tree (w.files.objects d.description)) is
   where
-    go : (x : Subject) → MayHave plan.grants (own_authority plan certificate program) (program_name plan program) x d.rights
-        → MayHave plan.grants (own_authority plan certificate program) (program_name plan program) x rights
+    go : (x : Subject) → MayHave plan.wide plan.grants (own_authority plan certificate program) (program_name plan program) x d.rights
+        → MayHave plan.wide plan.grants (own_authority plan certificate program) (program_name plan program) x rights
     go (Node_at place) is = record { name = is.name; holds = is.holds; below = is_within-trans rights d.rights _ less is.below }
     go (End_of class side) is = is
     go (Own_end of side) is = is
@@ -131,11 +123,11 @@ fewer_may plan certificate w program d rights less is = go (subject_of plan w.tr
 same_name_may : (plan : Plan) (certificate : Certificate) (w : World) (one other : ℕ) (d : Descriptor) → program_name plan one ≡ program_name plan other → IsWithinAuthority plan certificate w one d
     → IsWithinAuthority plan certificate w other d
 same_name_may plan certificate w one other d same is =
-    subst (λ n. MayHave plan.grants (authority_at certificate n) n (subject_of plan w.tree (w.files.objects d.description)) d.rights) same is
+    subst (λ n. MayHave plan.wide plan.grants (authority_at certificate n) n (subject_of plan w.tree (w.files.objects d.description)) d.rights) same is
 
 -- at a place in each grant that holds the first
-pub below_at : (plan : Plan) (certificate : Certificate) (program : ℕ) (from place : List (List ℕ)) (rights : ℕ) → IsBelowCeiling plan.grants (own_authority plan certificate program) from rights
-    → ((name : List ℕ) → grant_holds plan.grants name from ≡ true → grant_holds plan.grants name place ≡ true) → IsBelowCeiling plan.grants (own_authority plan certificate program) place rights
+pub below_at : (plan : Plan) (certificate : Certificate) (program : ℕ) (from place : List (List ℕ)) (rights : ℕ) → IsBelowCeiling plan.wide plan.grants (own_authority plan certificate program) from rights
+    → ((name : List ℕ) → grant_holds plan.grants name from ≡ true → grant_holds plan.grants name place ≡ true) → IsBelowCeiling plan.wide plan.grants (own_authority plan certificate program) place rights
 below_at plan certificate program from place rights is beneath = record { name = is.name; holds = beneath is.name is.holds; below = is.below }
 
 module _ (plan : Plan) (certificate : Certificate) (w : World) (e : Event) (s : ProcessState) (choice : Choice) (known : Roams plan certificate w e.process s choice) where
@@ -146,8 +138,8 @@ module _ (plan : Plan) (certificate : Certificate) (w : World) (e : Event) (s : 
   Under call = under_way (programs_of_plan plan) s ≡ Some call
 
   -- what a right of a descriptor lets do, at its place or beneath it
-  pub may : (right : ℕ) (operation : Operation) → Among (right, operation) operations_of_rights → is_within right 0 ≡ false → (from place : List (List ℕ)) (rights : ℕ)
-      → IsBelowCeiling plan.grants (own_authority plan certificate s.program) from rights → is_within right rights ≡ true
+  pub may : (right : ℕ) (operation : Operation) → Among (right, operation) operations_of_rights → (not (is_within right 0) && is_said plan.wide right) ≡ true → (from place : List (List ℕ)) (rights : ℕ)
+      → IsBelowCeiling plan.wide plan.grants (own_authority plan certificate s.program) from rights → is_within right rights ≡ true
       → ((name : List ℕ) → grant_holds plan.grants name from ≡ true → grant_holds plan.grants name place ≡ true) → Allowed plan.grants operation place
   may = may_do plan certificate s.program known.asked
 
@@ -156,7 +148,7 @@ module _ (plan : Plan) (certificate : Certificate) (w : World) (e : Event) (s : 
     May a = Confines plan certificate w e.process s choice known call here a
 
     -- ## Opening
-    module _ (f : OpenRequest) (d : Descriptor) (from : List (List ℕ)) (below : IsBelowCeiling plan.grants (own_authority plan certificate s.program) from d.rights)
+    module _ (f : OpenRequest) (d : Descriptor) (from : List (List ℕ)) (below : IsBelowCeiling plan.wide plan.grants (own_authority plan certificate s.program) from d.rights)
         (has : is_within (openat_needs f) d.rights ≡ true) where
       may_create : f.create ≡ true → (place : List (List ℕ)) → IsBeside plan.grants from place → Allowed plan.grants Creates place
       may_create creates place beside =
@@ -187,7 +179,7 @@ module _ (plan : Plan) (certificate : Certificate) (w : World) (e : Event) (s : 
             allowed = may_empty f.trunc refl (node w.tree n).place beside;
             deep = deep_truncated plan w.tree f.trunc n;
             adds =
-                subst (λ q. IsBelowCeiling plan.grants (own_authority plan certificate s.program) q d.rights) (sym (truncated_place w.tree f.trunc n there))
+                subst (λ q. IsBelowCeiling plan.wide plan.grants (own_authority plan certificate s.program) q d.rights) (sym (truncated_place w.tree f.trunc n there))
                 (below_at plan certificate s.program from (node w.tree n).place d.rights below beside);
             sends = tt;
           })))
@@ -206,7 +198,7 @@ module _ (plan : Plan) (certificate : Certificate) (w : World) (e : Event) (s : 
             allowed = (may_create reached.0 place reached.1, tt);
             deep = tt;
             adds =
-                subst (λ (m : Node). IsBelowCeiling plan.grants (own_authority plan certificate s.program) m.place d.rights) (sym (last_node w.tree made))
+                subst (λ (m : Node). IsBelowCeiling plan.wide plan.grants (own_authority plan certificate s.program) m.place d.rights) (sym (last_node w.tree made))
                 (below_at plan certificate s.program from place d.rights below reached.1);
             sends = tt;
           }))))

@@ -1,10 +1,11 @@
 -- Where the success of each call leads.
-use Rattle.std.proofs.Common.{◌≡◌, ℕ, Bool, List, inl, inr, refl}
-use Rattle.std.specs.Prelude.{◌-◌, Option, Some}
+use Rattle.std.proofs.Common.{◌≡◌, ℕ, Bool, true, false, List, inl, inr, refl}
+use Rattle.std.specs.Prelude.{◌-◌, Option, Some, if◌then◌else◌}
 use Rattle.rights.specs.Limits.{most_bytes, most_processes}
 use Rattle.process.specs.State.{ProcessState}
 use Rattle.instruction_set.specs.Programs.{Operand, Read, Write, Lseek, Ftruncate, Fsync, Fstat, Fcntl_getfl, Fcntl_setfl, Fstatat, Stat, Mkdirat, Mkdir, Unlinkat, Unlink, Cap_enter}
-use Rattle.instruction_set.specs.Programs.{Cap_getmode, Fork, Invoke}
+use Rattle.instruction_set.specs.Programs.{Cap_getmode, Fork, Use as Call_use, Invoke}
+use Rattle.rights.specs.Uses.{acts_beneath}
 use Rattle.kernel.specs.Answers.{value_of}
 use Rattle.task.specs.Plans.{Plan}
 use Rattle.certificate.specs.Bounds.{On, Certificate}
@@ -13,6 +14,14 @@ use Rattle.rules.specs.Intervals.{only}
 use Rattle.rules.specs.Outcomes.{from_to, mode_interval}
 use Rattle.rules.proofs.points.Stands.{Stands}
 use Rattle.rules.proofs.outcomes.Outcomes.{GoesOn, to_next, succeeds, gives_value, gives_beneath}
+
+the_one : {A : Type 0} (b : Bool) (x y : A) → b ≡ true → (if b then x else y) ≡ x
+the_one true x y is = refl
+the_one false x y is = absurd cc
+
+the_other : {A : Type 0} (b : Bool) (x y : A) → b ≡ false → (if b then x else y) ≡ y
+the_other true x y is = absurd cc
+the_other false x y is = refl
 
 module _ (plan : Plan) (certificate : Certificate) (s : ProcessState) (table : ℕ → Option Seen) where
   -- ## Calls that give a value alone
@@ -63,6 +72,23 @@ module _ (plan : Plan) (certificate : Certificate) (s : ProcessState) (table : �
       → GoesOn plan certificate s known.bound (only 0)
   leads_setfl x v otherwise known d here =
       gives_value plan certificate s table (Fcntl_setfl x v) otherwise known x d (only 0) here refl
+
+  -- ## Calls that need a further right, and those of them that act on a node alone
+  pub leads_use :
+      (x : Operand) (right otherwise : ℕ) (known : Stands plan certificate s table (Invoke (Call_use x right) otherwise)) (d : Seen) → table (value_of s x) ≡ Some d
+      → acts_beneath right ≡ false → GoesOn plan certificate s known.bound (only 0)
+  leads_use x right otherwise known d here apart =
+      gives_value plan certificate s table (Call_use x right) otherwise known x d (only 0) here (the_other (acts_beneath right) _ _ apart)
+
+  pub leads_use_at :
+      (x : Operand) (right otherwise : ℕ) (known : Stands plan certificate s table (Invoke (Call_use x right) otherwise)) (d : Seen) (place : List (List ℕ))
+      → table (value_of s x) ≡ Some d → d.subject ≡ Node_at place → GoesOn plan certificate s known.bound (only 0)
+  leads_use_at x right otherwise known d place here node = go (acts_beneath right) refl
+    where
+      go : (b : Bool) → acts_beneath right ≡ b → GoesOn plan certificate s known.bound (only 0)
+      go true beneath =
+          gives_beneath plan certificate s table (Call_use x right) otherwise known x d place (only 0) here node (the_one (acts_beneath right) _ _ beneath)
+      go false apart = leads_use x right otherwise known d here apart
 
   -- ## Calls on names
   pub leads_fstatat :

@@ -44,6 +44,7 @@ surely_may_be Either b is = refl
 pub record AskedOf (grants : List Grant) (certificate : Certificate) (b : Bound) (u : Use) : Type 0 where
   pub rights : is_within u.need.rights u.slot.held.least ≡ true
   pub commands : is_within u.need.commands u.slot.held.least_fcntls ≡ true
+  pub further : is_within u.need.further u.slot.held.least ≡ true
   pub kept_rights : is_within u.need.kept_rights u.slot.held.least ≡ true
   pub kept_commands : is_within u.need.kept_commands u.slot.held.least_fcntls ≡ true
   pub known : may_be_on b.mode ≡ true → u.need.works ≡ true → is_known u.slot.held.target ≡ true
@@ -69,9 +70,11 @@ module _ (plan : Plan) (certificate : Certificate) (program point : ℕ) (b : Bo
       let through = uses b call in
       let mode = may_be_on b.mode in
       let limits = each_of keeps_limit through all.limits u among in
+      let gone_by = each_of keeps_commands through all.commands u among in
       record {
         rights = each_of keeps_rights through all.rights u among;
-        commands = each_of keeps_commands through all.commands u among;
+        commands = both_left _ (is_within u.need.further u.slot.held.least) gone_by;
+        further = both_right (is_within u.need.commands u.slot.held.least_fcntls) _ gone_by;
         kept_rights = both_left _ (is_within u.need.kept_commands u.slot.held.least_fcntls) limits;
         kept_commands = both_right (is_within u.need.kept_rights u.slot.held.least) _ limits;
         known = λ may works. if_passes u.need.works _ (each_of works_on_known through (if_passes mode _ all.known may) u among) works;

@@ -1,19 +1,19 @@
 -- What the rules on marked programs say, where nothing is found.
 use Rattle.std.proofs.Common.{◌≡◌, ℕ, zero, suc, ◌≤◌, Bool, true, false, List, [], ◌∷◌, refl, arith, ap, sym, ◌∙◌, subst, length}
-use Rattle.std.specs.Prelude.{◌==◌, ◌&&◌, ◌||◌, not, Option, Some, None}
+use Rattle.std.specs.Prelude.{◌&&◌, ◌||◌, Option, Some, None}
 use Rattle.std.specs.List.{list_any, slice_get}
 use Rattle.std.specs.Str.{bytes_eq}
 use Rattle.std.specs.Cmp.Derive.{both_true}
 use Rattle.std.proofs.lemmas.Bool.{eq-eqb}
 use Rattle.rights.proofs.Tests.{both_left, both_right, not_true}
 use Rattle.rights.proofs.Words.{same_bytes}
-use Rattle.certificate.specs.Bounds.{Authority, Bound, Certificate, bound_at}
+use Rattle.certificate.specs.Bounds.{Bound, Certificate, bound_at}
 use Rattle.instruction_set.specs.Programs.{Instruction}
 use Rattle.task.specs.KeptLimits.{KeepsPrograms}
 use Rattle.task.specs.Plans.{NamedProgram, Plan, marked_in, name_in, is_marked, program_name}
-use Rattle.rules.specs.Authority.{authority_at, keeps_ceilings, keeps_moves, keeps_received, keeps_sent, may_start_all}
+use Rattle.rules.specs.Authority.{keeps_ceilings, keeps_moves, keeps_received, keeps_sent, may_start_all}
 use Rattle.rules.specs.Points.{instruction_at}
-use Rattle.rules.specs.Rules.{Test, authority_tests, enters_within, mark_tests, marked_at, starts_in_authority, tests, tests_without, least_broken}
+use Rattle.rules.specs.Rules.{authority_tests, enters_within, mark_tests, marked_at, starts_in_authority, tests, tests_without}
 use Rattle.rules.specs.Slots.{may_be_on}
 use Rattle.rules.specs.Verdicts.{found_at, found_with}
 use Rattle.rules.proofs.points.Asked.{AreKept, none_broken}
@@ -84,15 +84,15 @@ marked_by_name plan keeps n = go (slice_get plan.programs n) refl
 
 -- ## What is asked of an authority
 pub record AuthorityAsked (plan : Plan) (certificate : Certificate) (program : ℕ) : Type 0 where
-  pub ceilings : keeps_ceilings plan.grants (own_authority plan certificate program) ≡ true
+  pub ceilings : keeps_ceilings plan.wide plan.grants (own_authority plan certificate program) ≡ true
   pub moves : keeps_moves (own_authority plan certificate program) ≡ true
-  pub received : keeps_received certificate (own_authority plan certificate program) ≡ true
+  pub received : keeps_received plan.wide certificate (own_authority plan certificate program) ≡ true
   pub sent : keeps_sent certificate (own_authority plan certificate program) ≡ true
 
 -- and of a first process of the program that starts in the mode
 pub record FirstAsked (plan : Plan) (certificate : Certificate) (program : ℕ) : Type 0 where
   pub authority : AuthorityAsked plan certificate program
-  pub starts : may_start_all plan (own_authority plan certificate program) program plan.starts ≡ true
+  pub starts : may_start_all plan.wide plan (own_authority plan certificate program) program plan.starts ≡ true
 
 module _ (plan : Plan) (certificate : Certificate) (program : ℕ) (marked : marked_at plan program ≡ true) where
   asked_of_authority : AreKept (authority_tests plan certificate program 0) → AuthorityAsked plan certificate program
@@ -120,12 +120,12 @@ module _ (plan : Plan) (certificate : Certificate) (program : ℕ) (marked : mar
           let from_10 = all.1.1.1.1.1.1.1.1.1 in
           let from_17 = from_10.1.1.1.1.1.1.1 in
           let both = if_passes (marked_at plan program) _ from_17.1.0 marked in
-          record { authority = asked_of_authority from_17.1.1; starts = both_right (enters_within (own_authority plan certificate program) i b) _ both }
+          record { authority = asked_of_authority from_17.1.1; starts = both_right (enters_within plan.wide (own_authority plan certificate program) i b) _ both }
 
   -- ## What is asked at a point
   pub record PointAsked (i : Instruction) (b : Bound) : Type 0 where
     pub off : may_be_on b.mode ≡ false
-    pub enters : enters_within (own_authority plan certificate program) i b ≡ true
+    pub enters : enters_within plan.wide (own_authority plan certificate program) i b ≡ true
 
   pub point_asked : (point : ℕ) (i : Instruction) (b : Bound) → instruction_at plan program point ≡ Some i → bound_at certificate (program_name plan program) point ≡ Some b
       → found_at plan certificate program point ≡ None → PointAsked i b

@@ -63,6 +63,7 @@ among_moves b x y from to slot there =
 pub record Used (plan : Plan) (certificate : Certificate) (on : Bool) (u : Use) (d : Seen) : Type 0 where
   pub rights : is_within u.need.rights d.rights ≡ true
   pub commands : is_within u.need.commands d.fcntls ≡ true
+  pub further : is_within u.need.further d.rights ≡ true
   pub kept_rights : is_within u.need.kept_rights d.rights ≡ true
   pub kept_commands : is_within u.need.kept_commands d.fcntls ≡ true
   pub known : on ≡ true → u.need.works ≡ true → is_known u.slot.held.target ≡ true
@@ -94,6 +95,7 @@ module _ (plan : Plan) (certificate : Certificate) (s : ProcessState) (table : �
       record {
         rights = is_within-trans u.need.rights u.slot.held.least d.rights all.rights least;
         commands = is_within-trans u.need.commands u.slot.held.least_fcntls d.fcntls all.commands least_fcntls;
+        further = is_within-trans u.need.further u.slot.held.least d.rights all.further least;
         kept_rights = is_within-trans u.need.kept_rights u.slot.held.least d.rights all.kept_rights least;
         kept_commands = is_within-trans u.need.kept_commands u.slot.held.least_fcntls d.fcntls all.kept_commands least_fcntls;
         known = λ on. all.known (on_may on);

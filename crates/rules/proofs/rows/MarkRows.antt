@@ -1,10 +1,11 @@
 -- A child that an attacker may have taken over gets a directory over a socket pair: what the rules say of it, by computation.
 use Rattle.std.proofs.Common.{◌≡◌, [], ◌∷◌, List, refl}
-use Rattle.std.specs.Prelude.{ℕ, codes, true, Option, Some, None}
+use Rattle.std.specs.Prelude.{ℕ, codes, map, true, Option, Some, None}
 use Rattle.rights.specs.Sets.{renameat_target_right}
 use Rattle.rights.specs.Classes.{Initial}
 use Rattle.rights.specs.Operations.{Look, Read as Reads, Remove as Removes}
 use Rattle.certificate.specs.Bounds.{Off, On, Three, PointBound, ChannelBound, Ceiling, End, Certificate, bound_in}
+use Rattle.certificate.specs.Told.{told_channel, told_point}
 use Rattle.kernel.proofs.Samples.{base}
 use Rattle.file_tree.specs.Refusals.{created}
 use Rattle.task.specs.Plans.{Plan, unmarked}
@@ -50,8 +51,8 @@ side_b = record { class = Initial 0; side = 1 } ∷ []
 abbrev certificate : List PointBound → List ChannelBound → List Ceiling → List End → Certificate
 certificate points channels ceilings holds = record {
   version = Three;
-  points = points;
-  channels = channels;
+  points = map (told_point Three) points;
+  channels = map (told_channel Three) channels;
   authorities = record { program = codes "child"; ceilings = ceilings; holds = holds } ∷ [];
 }
 

@@ -41,6 +41,7 @@ task_of grant more code = record {
   grants = grant ∷ log ∷ [];
   programs = main_program code ∷ [];
   starts = main_start more ∷ [];
+  wide = false;
 }
 
 abbrev pub alone : List Instruction → Plan
@@ -56,6 +57,7 @@ joined main child = record {
       main_start (given 2 (On_end 0 0) ∷ [])
       ∷ record { program = 1; mode = true; descriptors = given 0 (On_end 0 1) ∷ [] }
       ∷ [];
+  wide = false;
 }
 
 -- ## The programs

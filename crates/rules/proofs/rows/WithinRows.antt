@@ -1,5 +1,7 @@
 -- What isn't within an authority.
-use Rattle.std.proofs.Common.{◌≡◌, [], ◌∷◌, refl, lit<, false, true}
+use Rattle.std.proofs.Common.{◌≡◌, Bool, [], ◌∷◌, refl, lit<, false, true}
+use Rattle.std.specs.Prelude.{bit_or}
+use Rattle.rights.specs.Sets.{is_within, write_right}
 use Rattle.std.proofs.Math.Decide.{ℕ_discrete}
 use Rattle.file_tree.specs.Places.{is_file_name}
 use Rattle.file_tree.specs.WellFormed.{is_within_limits}
@@ -12,7 +14,7 @@ use Rattle.task.specs.Begins.{first_files, first_world}
 use Rattle.task.specs.Plans.{programs_of_plan}
 use Rattle.task.specs.Policies.{grant_named}
 use Rattle.task.proofs.FirstWorlds.{first_well_formed}
-use Rattle.rules.specs.Authority.{authority_in, ceiling_in}
+use Rattle.rules.specs.Authority.{authority_in, ceiling_in, unsaid}
 use Rattle.rules.specs.MarkedRefusals.{WithinRefuses, carrying, first_event, no_authority}
 use Rattle.rules.specs.Within.{StayWithin}
 
@@ -28,12 +30,17 @@ carried_in stays =
     let within = stays.1 next.some.0 next.some.1 (lit< tt) tt in
     never (within 0 _ refl refl refl refl 0).below
 
+above : (wide : Bool) → is_within write_right (bit_or 0 (unsaid wide)) ≡ true → ⊥
+above true is = never is
+above false is = never is
+
 pub within_refuses : WithinRefuses
 unfolding ceiling_in grant_named
 within_refuses = record {
-  above_the_ceiling = λ grants place is. never is.below;
-  in_no_grant = λ a place is. never is.holds;
-  unlisted_end = λ is. never is;
-  end_of_another = λ is. absurd cc;
+  above_the_ceiling = λ wide grants place is. above wide is.below;
+  further_above_it = λ grants place is. never is.below;
+  in_no_grant = λ wide a place is. never is.holds;
+  unlisted_end = λ wide is. never is;
+  end_of_another = λ wide is. absurd cc;
   carried_in = carried_in;
 }

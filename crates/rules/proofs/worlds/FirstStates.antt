@@ -30,9 +30,9 @@ use Rattle.task.proofs.FirstWorlds.{first_well_formed}
 use Rattle.task.proofs.KeptLimits.{plans_keep_limits}
 use Rattle.task.proofs.Trusted.{first_marked}
 use Rattle.rules.specs.Points.{instruction_at}
-use Rattle.rules.specs.Rules.{Test, first_subject, first_seen, first_table, start_within, starts_within, all_starts_within, is_bounded_start, marked_at, is_started}
+use Rattle.rules.specs.Rules.{Test, first_subject, first_seen, first_table, start_within, starts_within, is_bounded_start, marked_at, is_started}
 use Rattle.rules.specs.Rules.{tests, tests_without, least_broken}
-use Rattle.rules.specs.Authority.{ceiling_in, is_below_ceiling, may_start_on, may_start_with}
+use Rattle.rules.specs.Authority.{is_below_ceiling, may_start_on, may_start_with, most_in}
 use Rattle.rules.specs.Verdicts.{MeetsRules, found_with, found_at}
 use Rattle.rules.proofs.Members.{Among, each_of}
 use Rattle.rules.proofs.points.Marked.{FirstAsked, any_at, any_found, first_asked, marked_by_name}
@@ -160,25 +160,25 @@ module _ (plan : Plan) (certificate : Certificate) (valid : is_plan plan ≡ tru
       abbrev a : Authority
       a = own_authority plan certificate st.program
 
-      may_start : list_all (may_start_with plan a) st.descriptors ≡ true
+      may_start : list_all (may_start_with plan.wide plan a) st.descriptors ≡ true
       may_start =
           own (st.mode && (st.program == st.program)) (both_true (both_right (marks plan st.program) st.mode free) (eq-eqb st.program st.program refl))
-          (list_all-slice_get (λ (s : Start). not (s.mode && (s.program == st.program)) || list_all (may_start_with plan a) s.descriptors) plan.starts p st asked.starts here)
+          (list_all-slice_get (λ (s : Start). not (s.mode && (s.program == st.program)) || list_all (may_start_with plan.wide plan a) s.descriptors) plan.starts p st asked.starts here)
         where
-          own : (b : Bool) → b ≡ true → (not b || list_all (may_start_with plan a) st.descriptors) ≡ true → list_all (may_start_with plan a) st.descriptors ≡ true
+          own : (b : Bool) → b ≡ true → (not b || list_all (may_start_with plan.wide plan a) st.descriptors) ≡ true → list_all (may_start_with plan.wide plan a) st.descriptors ≡ true
           own true is h = h
           own false is h = absurd cc
 
-      may_have : (x : FirstObject) (rights : ℕ) → may_start_on plan a rights x ≡ true → MayHave plan.grants a (program_name plan st.program) (subject_of plan plan.nodes (first_object x)) rights
+      may_have : (x : FirstObject) (rights : ℕ) → may_start_on plan.wide plan a rights x ≡ true → MayHave plan.wide plan.grants a (program_name plan st.program) (subject_of plan plan.nodes (first_object x)) rights
       may_have (On_node n access) rights may =
           let place = (node plan.nodes n).place in
-          let found = any_found (is_below_ceiling a rights place) plan.grants may in
+          let found = any_found (is_below_ceiling plan.wide a rights place) plan.grants may in
           let g : Grant = found.element in
           record {
             name = g.name;
             holds =
                 subst (λ o. holds_in o place ≡ true) (sym ((plans_keep_limits plan valid).grants.found found.number g found.there))
-                (both_left _ (is_within rights (ceiling_in a.ceilings g.name)) found.passes);
+                (both_left _ (is_within rights (most_in plan.wide a g.name)) found.passes);
             below = both_right (begins g.path place) _ found.passes;
           }
       may_have (On_end pair side) rights may = may
@@ -195,11 +195,11 @@ module _ (plan : Plan) (certificate : Certificate) (valid : is_plan plan ≡ tru
           entry None at (Some d) is = absurd is
           entry (Some given) at None is = absurd is
           entry (Some given) at (Some d) is =
-              let one = each_of (may_start_with plan a) st.descriptors may_start given (given_among n st.descriptors given at) in
+              let one = each_of (may_start_with plan.wide plan a) st.descriptors may_start given (given_among n st.descriptors given at) in
               let tree = (first_is_first plan valid).tree in
-              subst (λ r. MayHave plan.grants a (program_name plan st.program) (subject_of plan (first_world plan).tree ((first_world plan).files.objects d.description)) r) (sym is.rights)
-              (subst (λ o. MayHave plan.grants a (program_name plan st.program) (subject_of plan (first_world plan).tree o) given.rights) (sym is.object)
-              (subst (λ t. MayHave plan.grants a (program_name plan st.program) (subject_of plan t (first_object given.object)) given.rights) (sym tree)
+              subst (λ r. MayHave plan.wide plan.grants a (program_name plan st.program) (subject_of plan (first_world plan).tree ((first_world plan).files.objects d.description)) r) (sym is.rights)
+              (subst (λ o. MayHave plan.wide plan.grants a (program_name plan st.program) (subject_of plan (first_world plan).tree o) given.rights) (sym is.object)
+              (subst (λ t. MayHave plan.wide plan.grants a (program_name plan st.program) (subject_of plan t (first_object given.object)) given.rights) (sym tree)
               (may_have given.object given.rights one)))
 
     first_asks : IsPoint (instruction_at plan st.program 0) → (free : Bool) → (marks plan st.program && st.mode) ≡ free

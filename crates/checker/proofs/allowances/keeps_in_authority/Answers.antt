@@ -14,7 +14,7 @@ use Rattle.checker.proofs.allowances.keeps_in_authority.Goals as goal
 pub returns-in-Ceilings : goal.returns-in-Ceilings
 returns-in-Ceilings c =
     let ceilings = c.args.allowance.now.ceilings.now in
-    let all = all_seen (keeps_ceiling c.args.task.now.grants) ceiling_of ceilings _ _ _ c.all.ensures.ran (YieldsList-from_slice ceilings cc) (λ x b q k. search (rules, tests)) in
+    let all = all_seen (keeps_ceiling c.args.allowance.now.wide c.args.task.now.grants) ceiling_of ceilings _ _ _ c.all.ensures.ran (YieldsList-from_slice ceilings cc) (λ x b q k. search (rules, tests)) in
     search (rules, tests)
 
 pub returns-in-Moves : goal.returns-in-Moves
@@ -27,7 +27,7 @@ returns-in-Moves c =
 pub returns-in-Received : goal.returns-in-Received
 returns-in-Received c =
     let ends = c.args.allowance.now.ends.now in
-    let comes : End → Bool = λ held. may_come (allowance_of c.args.allowance.now) (channel_at c.args.cert.now held.class (other_side held.side)) in
+    let comes : End → Bool = λ held. may_come c.args.allowance.now.wide (allowance_of c.args.allowance.now) (channel_at c.args.cert.now held.class (other_side held.side)) in
     let all = all_seen comes held_end_of ends _ _ _ c.all-in-Received.ensures.ran (YieldsList-from_slice ends cc) (λ x b q k. search (rules, tests)) in
     search (rules, tests)
 

@@ -9,5 +9,5 @@ use Rattle.checker.proofs.allowances.may_start.Goals as goal
 pub returns : goal.returns
 returns c =
     let descriptors = c.args.start.now.descriptors.items in
-    all_seen (may_start_with c.args.task.now (allowance_of c.args.allowance.now)) first_descriptor_of descriptors _ _ _ c.all.ensures.ran
+    all_seen (may_start_with c.args.allowance.now.wide c.args.task.now (allowance_of c.args.allowance.now)) first_descriptor_of descriptors _ _ _ c.all.ensures.ran
     (YieldsList-from_slice descriptors cc) (λ x b q k. search (rules, tests))

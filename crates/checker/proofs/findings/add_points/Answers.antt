@@ -1,4 +1,4 @@
-use Rattle.std.proofs.Common.{◌≡◌, ◌∙◌, ◌++◌, ◌+◌, ap, arith, length, map, sym, refl}
+use Rattle.std.proofs.Common.{◌≡◌, ◌∙◌, ◌++◌, ◌+◌, ap, arith, length, map, sym}
 use Rattle.std.specs.Prelude.{option_map}
 use Rattle.certificate.specs.Views.{bound_of}
 use Rattle.instruction_set.specs.Views.{instruction_of}

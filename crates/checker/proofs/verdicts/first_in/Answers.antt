@@ -1,4 +1,4 @@
-use Rattle.std.proofs.Common.{◌≡◌, ◌+◌, ◌<◌, ◌≤◌, ◌⊎◌, inl, inr, ℕ, length, refl, ap, sym, subst, arith, ◌∙◌}
+use Rattle.std.proofs.Common.{◌≡◌, ◌+◌, ◌<◌, ◌≤◌, ◌⊎◌, inl, inr, ℕ, length, ap, sym, subst, arith, ◌∙◌}
 use Rattle.std.specs.Prelude.{None}
 use Rattle.kernel.proofs.Fresh.{lt_or_le}
 use Rattle.instruction_set.specs.Views.{instruction_of}

@@ -1,6 +1,6 @@
 use Rattle.std.proofs.Common.{◌∙◌, ap, codes, inl, inr, refl, subst, sym, Bool, true, false}
 use Rattle.std.specs.Prelude.{◌≡◌, List, ℕ, Option, Some, Ok, Err, IfSome}
-use Rattle.certificate.specs.Bounds.{Two, Certificate}
+use Rattle.certificate.specs.Bounds.{Certificate}
 use Rattle.certificate_text.specs.Readings.{certificate_of_text}
 use Rattle.certificate_text.specs.Texts.{certificate_text}
 use Rattle.certificate_text.specs.WritingViews.{Writes}
@@ -10,6 +10,7 @@ use Rattle.rights.specs.declared.stops.Stop.{Stop}
 use Rattle.rights.specs.declared.stops.Stop.TheVariants.{Memory, Device, Spent}
 use Rattle.rules.specs.Expansions.{expansion}
 use Rattle.rules.proofs.Sound.{sound}
+use Rattle.searcher.specs.Versions.{flat_version}
 use Rattle.task.specs.Limits.{is_plan}
 use Rattle.task.specs.Plans.{Plan, none_marked}
 use Rattle.commands.specs.Searched.{Proposes}
@@ -22,13 +23,13 @@ not_false false marked = absurd (marked refl)
 -- a certificate that is found, and written
 proposes : (plan : Plan) (bounds : Certificate) (found : Option Certificate) (before after : Option (List ℕ)) → is_plan plan ≡ true →
     (none_marked plan ≡ false → ⊥) → found ≡ Some bounds → IfSome found (λ cert. IsAccepted plan cert) →
-    IfSome found (λ cert. cert.version ≡ Two) → certificate_of_text (certificate_text bounds) ≡ Ok bounds →
+    IfSome found (λ cert. cert.version ≡ flat_version plan) → certificate_of_text (certificate_text bounds) ≡ Ok bounds →
     Took before after (certificate_text bounds) → Proposes plan before after
 proposes plan bounds found before after valid marked is accepted two back took =
     let accepts : IsAccepted plan bounds = subst (λ found. IfSome found (λ cert. IsAccepted plan cert)) is accepted in
     record {
       bounds = bounds;
-      version = subst (λ found. IfSome found (λ cert. cert.version ≡ Two)) is two;
+      version = subst (λ found. IfSome found (λ cert. cert.version ≡ flat_version plan)) is two;
       accepted = accepts;
       sandboxed = sound plan (expansion plan bounds) valid (not_false (none_marked plan) marked) accepts;
       reads_back = back;

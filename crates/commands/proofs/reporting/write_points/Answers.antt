@@ -20,23 +20,23 @@ returns-in_err-write_bound g c =
     let code = c.code-items.result.now in
     let name = c.as_bytes-name.result.now in
     let grants = grants_of c.args.grants.now in
-    let lines = lines_at grants c.args.cert.now name in
+    let lines = lines_at c.args.wide grants c.args.cert.now name in
     let point = c.loop-point.point in
     let found : Some (bound_of c.in-Some.bound) ≡ bound_at c.args.cert.now name point = c.in-Some.ensures in
     written-as _ _ _ _ _ _ _
-    (points-as grants c.args.cert.now name (map instruction_of code) (program_of c.args.program.now) c.as_bytes-name.ensures.bytes c.code-items.ensures.value)
+    (points-as c.args.wide grants c.args.cert.now name (map instruction_of code) (program_of c.args.program.now) c.as_bytes-name.ensures.bytes c.code-items.ensures.value)
     (loop-failed instruction_of lines code _ _ _ _ _ _ point (in_order lines 0 (map instruction_of code))
     (slice_index_or code point Halt) c.loop-point-test.true (same-at code point _ _ c.loop-point-test.true) c.loop-point.invariant
     c.in_err-write_bound.field-0.0 _ (passed_on _ _ c.from_residual.ensures)
     (written-as (Err c.in_err-write_bound.field-0.0) (g.W.Out.taken c.loop-point.out) (g.W.Out.taken c.write_bound.new.out)
-    (g.W.Out.faults c.loop-point.out) (g.W.Out.faults c.write_bound.new.out) _ _ (ap (point_lines grants name point) found) c.in_err-write_bound.ensures))
+    (g.W.Out.faults c.loop-point.out) (g.W.Out.faults c.write_bound.new.out) _ _ (ap (point_lines c.args.wide grants name point) found) c.in_err-write_bound.ensures))
 
 pub loop-point-preserved : goal.loop-point-preserved
 loop-point-preserved g c =
     let code = c.code-items.result.now in
     let name = c.as_bytes-name.result.now in
     let grants = grants_of c.args.grants.now in
-    let lines = lines_at grants c.args.cert.now name in
+    let lines = lines_at c.args.wide grants c.args.cert.now name in
     let point = c.loop-point.point in
     elim c.match-bound_at.branch [
       | in-Some+in_ok-write_bound w ↦
@@ -44,12 +44,12 @@ loop-point-preserved g c =
           rw w.out-is (loop-next instruction_of lines code _ _ _ _ _ _ point (in_order lines 0 (map instruction_of code))
           (slice_index_or code point Halt) c.loop-point-test.true (same-at code point _ _ c.loop-point-test.true) c.loop-point.invariant tt
           (written-as (Ok tt) (g.W.Out.taken c.loop-point.out) (g.W.Out.taken w.write_bound.new.out)
-          (g.W.Out.faults c.loop-point.out) (g.W.Out.faults w.write_bound.new.out) _ _ (ap (point_lines grants name point) found) w.in_ok-write_bound.ensures))
+          (g.W.Out.faults c.loop-point.out) (g.W.Out.faults w.write_bound.new.out) _ _ (ap (point_lines c.args.wide grants name point) found) w.in_ok-write_bound.ensures))
       | in_default w ↦
           let found : None ≡ bound_at c.args.cert.now name point = w.in_default.ensures in
           rw w.out-is (loop-next instruction_of lines code _ _ _ _ _ _ point (in_order lines 0 (map instruction_of code))
           (slice_index_or code point Halt) c.loop-point-test.true (same-at code point _ _ c.loop-point-test.true) c.loop-point.invariant tt
-          (nothing-as (g.W.Out.taken c.loop-point.out) (g.W.Out.faults c.loop-point.out) _ (ap (point_lines grants name point) found)))
+          (nothing-as (g.W.Out.taken c.loop-point.out) (g.W.Out.faults c.loop-point.out) _ (ap (point_lines c.args.wide grants name point) found)))
     ]
 
 pub returns : goal.returns
@@ -57,7 +57,7 @@ returns g c =
     let code = c.code-items.result.now in
     let name = c.as_bytes-name.result.now in
     let grants = grants_of c.args.grants.now in
-    let lines = lines_at grants c.args.cert.now name in
+    let lines = lines_at c.args.wide grants c.args.cert.now name in
     written-as (Ok tt) _ _ _ _ (in_order lines 0 (map instruction_of code)) _
-    (points-as grants c.args.cert.now name (map instruction_of code) (program_of c.args.program.now) c.as_bytes-name.ensures.bytes c.code-items.ensures.value)
+    (points-as c.args.wide grants c.args.cert.now name (map instruction_of code) (program_of c.args.program.now) c.as_bytes-name.ensures.bytes c.code-items.ensures.value)
     (loop-end instruction_of lines code _ _ _ _ c.loop-point.point (in_order lines 0 (map instruction_of code)) tt c.loop-point-test.false c.loop-point.invariant)

@@ -9,5 +9,5 @@ use Rattle.commands.proofs.reporting.write_report.Given as goal
 abbrev pub invariant-loop-program : goal.invariant-loop-program
 invariant-loop-program g l =
     Written (g.W.Out.taken l.fn.out) (g.W.Out.taken l.out) (g.W.Out.faults l.fn.out) (g.W.Out.faults l.out)
-    (in_order (λ n. program_lines (grants_of l.grants) l.cert) 0 (map program_of l.program-items))
-    (in_order (λ n. program_lines (grants_of l.grants) l.cert) l.program-index (map program_of (drop l.program-index l.program-items)))
+    (in_order (λ n. program_lines l.wide (grants_of l.grants) l.cert) 0 (map program_of l.program-items))
+    (in_order (λ n. program_lines l.wide (grants_of l.grants) l.cert) l.program-index (map program_of (drop l.program-index l.program-items)))

@@ -1,7 +1,7 @@
 use Rattle.std.proofs.Common.{[], drop, map}
 use Rattle.certificate_text.proofs.Written.{Written}
 use Rattle.commands.specs.Reports.{names_in, parted}
-use Rattle.commands.proofs.Listings.{row_seen}
+use Rattle.commands.specs.ReportViews.{row_seen}
 use Rattle.commands.proofs.reporting.write_rights.Given as goal
 
 -- those before this one are written

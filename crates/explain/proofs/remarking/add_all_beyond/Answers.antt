@@ -11,7 +11,7 @@ use Rattle.explain.proofs.remarking.add_all_beyond.Goals as goal
 
 pub loop-number-preserved : goal.loop-number-preserved
 loop-number-preserved c =
-    adds_one_more (beyond_by (grants_of c.args.grants.now) (code_of c.args.code.now) (bounds_of c.args.bounds.now))
+    adds_one_more (beyond_by c.args.wide (grants_of c.args.grants.now) (code_of c.args.code.now) (bounds_of c.args.bounds.now))
     c.loop-number.number c.args.list.now.items c.loop-number.list.items c.add_beyond.new.list.items
     c.loop-number.invariant c.in_ok-add_beyond.ensures
 
@@ -21,4 +21,4 @@ returns c =
     let same : c.loop-number.number ≡ 16 = omega (arith, c.loop-number-test.false, c.loop-number.auto.number-end) in
     c.loop-number.invariant
     ∙ ap (λ n. map headed c.args.list.now.items
-    ++ flat_map (beyond_by (grants_of c.args.grants.now) (code_of c.args.code.now) (bounds_of c.args.bounds.now)) (range_with_len 0 n)) same
+    ++ flat_map (beyond_by c.args.wide (grants_of c.args.grants.now) (code_of c.args.code.now) (bounds_of c.args.bounds.now)) (range_with_len 0 n)) same

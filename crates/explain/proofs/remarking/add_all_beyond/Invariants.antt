@@ -10,4 +10,4 @@ use Rattle.explain.proofs.remarking.add_all_beyond.Given as goal
 abbrev pub invariant-loop-number : goal.invariant-loop-number
 invariant-loop-number l =
     AddsObserved l.fn.list.items l.list.items
-    (flat_map (beyond_by (grants_of l.grants) (code_of l.code) (bounds_of l.bounds)) (range_with_len 0 l.number))
+    (flat_map (beyond_by l.wide (grants_of l.grants) (code_of l.code) (bounds_of l.bounds)) (range_with_len 0 l.number))

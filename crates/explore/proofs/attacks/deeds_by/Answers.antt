@@ -12,7 +12,7 @@ returns c =
     record {
       go =
           go_append c.args.number (plain ++ named) c.in_ok-limits.limits.items
-          (go_append c.args.number plain named (subst (λ n. GoBy n plain) c.add_plain.ensures c.take-plain.ensures.taken)
+          (go_append c.args.number plain named (subst (λ n. GoBy n plain) (c.add_uses.ensures ∙ c.add_plain.ensures) c.take-plain.ensures.taken)
           (subst (λ n. GoBy n named) (c.growing.view_is ∙ c.loop-name.invariant) c.growing.invariant))
           (subst (GoBy c.args.number) (sym limits) (refl, (refl, tt)));
       others = plain ++ named;

@@ -1,4 +1,4 @@
-use Rattle.std.proofs.Common.{◌≡◌, ◌+◌, ◌<◌, ◌≤◌, true, List, [], ◌∷◌, map, drop, ◌∙◌, subst, sym, option_map}
+use Rattle.std.proofs.Common.{◌≡◌, ◌+◌, ◌<◌, ◌≤◌, true, List, [], ◌∷◌, map, drop, ◌∙◌, ap, subst, sym, option_map}
 use Rattle.std.specs.List.{slice_index_or}
 use Rattle.std.proofs.Math.ListN.{length-map}
 use Rattle.std.proofs.lemmas.List.{get_or-map, take_all}
@@ -15,7 +15,7 @@ use Rattle.simulator.specs.Views.{line_of}
 use Rattle.simulator.proofs.Splitting.{map-drop, drop-end}
 use Rattle.simulator.proofs.Tracing.{bytes_more}
 use Rattle.explore.specs.declared.attacks.Move.{Move as MoveCode}
-use Rattle.explore.specs.Broken.{Move}
+use Rattle.explore.specs.Broken.{Move, are_all_spoken}
 use Rattle.explore.specs.BreachViews.{breach_of}
 use Rattle.explore.specs.MoveViews.{act_of, deed_in, event_at, move_of}
 use Rattle.explore.proofs.MayDo.{events-of, may-do}
@@ -27,6 +27,8 @@ pub loop-next-init : goal.loop-next-init
 loop-next-init c =
     let plan : Plan = c.args.task.now in
     let same : c.in_ok-machine.machine.plan ≡ plan = c.in_ok-machine.ensures.plan in
+    let spoken : are_all_spoken plan.wide (map move_of c.args.moves.now) ≡ true =
+    sym (c.are_all_spoken-spoken.ensures ∙ ap (λ wide. are_all_spoken wide (map move_of c.args.moves.now)) c.further_rights.ensures) ∙ c.if-not-spoken.false in
     let test : is_plan plan ≡ true = subst (λ (p : Plan). is_plan p ≡ true) same c.in_ok-machine.ensures.valid in
     record {
       runs_on = c.in_ok-machine.ensures.runs_on;
@@ -34,7 +36,7 @@ loop-next-init c =
       valid = test;
       well_formed = subst (λ (p : Plan). IsWellFormed (programs_of_plan p) (machine_world c.in_ok-machine.machine)) same c.in_ok-machine.ensures.well_formed;
       bytes = tt;
-      leads = leads-start plan (map move_of c.args.moves.now) (machine_world c.in_ok-machine.machine) test c.in_ok-machine.ensures.world;
+      leads = leads-start plan (map move_of c.args.moves.now) (machine_world c.in_ok-machine.machine) spoken test c.in_ok-machine.ensures.world;
     }
 
 pub loop-next-preserved : goal.loop-next-preserved

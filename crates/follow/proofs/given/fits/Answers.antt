@@ -14,8 +14,8 @@ returns-in-Flags c =
     let mappings : List FdMapping = mappings_seen c.args.names.now.mappings.now in
     let process : ℕ = c.args.names.now.process in
     let registers : List ℕ = c.args.names.now.registers.now in
-    c.flags_fit.ensures placings mappings process registers
-    ∙ ap (λ (operand : OperandCode). fits placings mappings process registers (operand_seen operand) (argument_seen c.args.given.now)) (sym c.in-Flags.is)
+    c.flags_fit.ensures c.args.names.now.wide placings mappings process registers
+    ∙ ap (λ (operand : OperandCode). fits c.args.names.now.wide placings mappings process registers (operand_seen operand) (argument_seen c.args.given.now)) (sym c.in-Flags.is)
 
 pub returns-in-Rights : goal.returns-in-Rights
 returns-in-Rights c =
@@ -24,7 +24,7 @@ returns-in-Rights c =
     let process : ℕ = c.args.names.now.process in
     let registers : List ℕ = c.args.names.now.registers.now in
     c.rights_fit.ensures placings mappings process registers
-    ∙ ap (λ (operand : OperandCode). fits placings mappings process registers (operand_seen operand) (argument_seen c.args.given.now)) (sym c.in-Rights.is)
+    ∙ ap (λ (operand : OperandCode). fits c.args.names.now.wide placings mappings process registers (operand_seen operand) (argument_seen c.args.given.now)) (sym c.in-Rights.is)
 
 pub returns-in-Commands : goal.returns-in-Commands
 returns-in-Commands c =
@@ -32,8 +32,8 @@ returns-in-Commands c =
     let mappings : List FdMapping = mappings_seen c.args.names.now.mappings.now in
     let process : ℕ = c.args.names.now.process in
     let registers : List ℕ = c.args.names.now.registers.now in
-    c.commands_fit.ensures placings mappings process registers
-    ∙ ap (λ (operand : OperandCode). fits placings mappings process registers (operand_seen operand) (argument_seen c.args.given.now)) (sym c.in-Commands.is)
+    c.commands_fit.ensures c.args.names.now.wide placings mappings process registers
+    ∙ ap (λ (operand : OperandCode). fits c.args.names.now.wide placings mappings process registers (operand_seen operand) (argument_seen c.args.given.now)) (sym c.in-Commands.is)
 
 pub returns-in-Directory : goal.returns-in-Directory
 returns-in-Directory c =
@@ -41,5 +41,5 @@ returns-in-Directory c =
     let mappings : List FdMapping = mappings_seen c.args.names.now.mappings.now in
     let process : ℕ = c.args.names.now.process in
     let registers : List ℕ = c.args.names.now.registers.now in
-    c.choice_fits.ensures placings mappings process registers
-    ∙ ap (λ (operand : OperandCode). fits placings mappings process registers (operand_seen operand) (argument_seen c.args.given.now)) (sym c.in-Directory.is)
+    c.choice_fits.ensures c.args.names.now.wide placings mappings process registers
+    ∙ ap (λ (operand : OperandCode). fits c.args.names.now.wide placings mappings process registers (operand_seen operand) (argument_seen c.args.given.now)) (sym c.in-Directory.is)

@@ -1,4 +1,4 @@
-use Rattle.std.proofs.Common.{◌≡◌, List, [], ap, sym, ◌∙◌, refl}
+use Rattle.std.proofs.Common.{◌≡◌, ap, sym, ◌∙◌, refl}
 use Rattle.std.specs.Prelude.{Option, Some, None, Ok, option_map, is_some, false}
 use Rattle.instruction_set.specs.Assembly.{line_with}
 use Rattle.prog_asm.specs.FaultPlaceViews.{fault_seen, list_of}
@@ -14,7 +14,7 @@ pub returns : goal.returns
 returns c = λ same.
     let wrong = none-is c.in_ok-seen.seen.wrong c.is_some.result c.is_some.ensures c.if-is_some.false in
     let label = none-is c.in_ok-seen.seen.line.label c.is_some-else-is_some.result c.is_some-else-is_some.ensures c.if-is_some-2.false in
-    let read = good-read c.args.text.now 1 (sym (ap (λ wrong. list_of (option_map fault_seen wrong)) wrong) ∙ c.in_ok-seen.ensures.wrong) in
+    let read = good-read c.args.wide c.args.text.now 1 (sym (ap (λ wrong. list_of (option_map fault_seen wrong)) wrong) ∙ c.in_ok-seen.ensures.wrong) in
     record {
       found = option_map written_from c.in_ok-seen.seen.line.instruction;
       read = read ∙ ap Ok (sym c.in_ok-seen.ensures.line)

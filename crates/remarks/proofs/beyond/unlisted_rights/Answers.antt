@@ -1,5 +1,5 @@
-use Rattle.std.proofs.Common.{◌≡◌, ◌∙◌, ap, sym, true}
-use Rattle.std.specs.Prelude.{map, ℕ}
+use Rattle.std.proofs.Common.{◌≡◌, ◌∙◌, ap, sym}
+use Rattle.std.specs.Prelude.{map}
 use Rattle.std.specs.List.{list_all}
 use Rattle.std.proofs.lemmas.List.Folds.{list_all-map}
 use Rattle.std.proofs.lemmas.List.Sums.{AllPass-from_list_all}
@@ -26,4 +26,4 @@ returns c =
     let rows = c.operations_of_rights.result.now in
     let same : map (λ (o : RightOperation). o.right.0) rows ≡ rights_of_operations =
     sym (map-map (λ (o : RightSet × Operation). o.0) right_operation_seen rows) ∙ ap (map (λ (o : RightSet × Operation). o.0)) c.operations_of_rights.ensures in
-    c.unlisted_among.ensures ∙ ap (unlisted_among (grants_of c.args.grants.now) (name_of c.args.grant.now) c.args.held.0) same
+    c.unlisted_among.ensures ∙ ap (unlisted_among c.args.wide (grants_of c.args.grants.now) (name_of c.args.grant.now) c.args.held.0) same

@@ -1,7 +1,7 @@
 use Rattle.std.proofs.Common.{◌≡◌, true, false, sym, ◌∙◌, ap}
 use Rattle.std.specs.Prelude.{not}
 use Rattle.std.specs.List.{list_all}
-use Rattle.task.specs.Plans.{NamedProgram, none_marked}
+use Rattle.task.specs.Plans.{NamedProgram}
 use Rattle.searcher.proofs.proposing.reached.Goals as goal
 
 -- either no program is marked, or some is

@@ -10,5 +10,5 @@ use Rattle.task_reader.proofs.assembling.assemble_all.Given as goal
 -- the programs that are kept so far, and then those that are left
 abbrev pub invariant-loop-program : goal.invariant-loop-program
 invariant-loop-program l =
-    (first_assembled (programs_seen l.written) ≡ few (after (programs_of l.programs.items) (all_assembled (programs_seen (drop l.program-index l.written)))))
+    (first_assembled l.wide (programs_seen l.written) ≡ few (after (programs_of l.programs.items) (all_assembled l.wide (programs_seen (drop l.program-index l.written)))))
     × (length l.programs.items ≤ most_programs)

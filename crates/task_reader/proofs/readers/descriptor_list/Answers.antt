@@ -17,22 +17,22 @@ returns-in_err-written_descriptor c =
     let error = c.in_err-written_descriptor.field-0.0 in
     let v = c.value-item.result in
     let vs = c.args.values.now in
-    let none : written_descriptor (view v) ≡ None → each_item written_descriptor (items_view vs) ≡ None =
-    λ refused. stops {S = Value} (λ vs. each_item written_descriptor (items_view vs)) (λ v. written_descriptor (view v)) descriptor_seen (λ x xs. refl)
+    let none : written_descriptor c.args.further (view v) ≡ None → each_item (written_descriptor c.args.further) (items_view vs) ≡ None =
+    λ refused. stops {S = Value} (λ vs. each_item (written_descriptor c.args.further) (items_view vs)) (λ v. written_descriptor c.args.further (view v)) descriptor_seen (λ x xs. refl)
     _ vs c.loop-value.value-index v c.loop-value.descriptors.items
-    c.loop-value.invariant c.loop-value-test.true (ap (λ v. written_descriptor (view v)) (sym c.value-item.is) ∙ refused) in
-    rw (p.1, p.2) (field-fault error (written_descriptor (view v)) (each_item written_descriptor (items_view vs)) none c.in_err-written_descriptor.ensures)
+    c.loop-value.invariant c.loop-value-test.true (ap (λ v. written_descriptor c.args.further (view v)) (sym c.value-item.is) ∙ refused) in
+    rw (p.1, p.2) (field-fault error (written_descriptor c.args.further (view v)) (each_item (written_descriptor c.args.further) (items_view vs)) none c.in_err-written_descriptor.ensures)
 
 pub loop-value-preserved : goal.loop-value-preserved
 loop-value-preserved c =
-    let is : written_descriptor (view c.value-item.result) ≡ Some (descriptor_seen c.in_ok-written_descriptor.field-0) = some_from Wrong_field _ _ c.in_ok-written_descriptor.ensures in
-    goes-on {S = Value} (λ vs. each_item written_descriptor (items_view vs)) (λ v. written_descriptor (view v)) descriptor_seen (λ x xs. refl)
+    let is : written_descriptor c.args.further (view c.value-item.result) ≡ Some (descriptor_seen c.in_ok-written_descriptor.field-0) = some_from Wrong_field _ _ c.in_ok-written_descriptor.ensures in
+    goes-on {S = Value} (λ vs. each_item (written_descriptor c.args.further) (items_view vs)) (λ v. written_descriptor c.args.further (view v)) descriptor_seen (λ x xs. refl)
     _ c.args.values.now c.loop-value.value-index c.value-item.result
     c.loop-value.descriptors.items _ c.in_ok-written_descriptor.field-0
-    c.loop-value.invariant c.loop-value-test.true (ap (λ v. written_descriptor (view v)) (sym c.value-item.is) ∙ is) c.in_ok-push.ensures.items
+    c.loop-value.invariant c.loop-value-test.true (ap (λ v. written_descriptor c.args.further (view v)) (sym c.value-item.is) ∙ is) c.in_ok-push.ensures.items
 
 pub returns : goal.returns
 returns c =
-    ap (or_mistake Wrong_field) (ends {S = Value} (λ vs. each_item written_descriptor (items_view vs)) (λ v. written_descriptor (view v)) descriptor_seen (λ x xs. refl)
+    ap (or_mistake Wrong_field) (ends {S = Value} (λ vs. each_item (written_descriptor c.args.further) (items_view vs)) (λ v. written_descriptor c.args.further (view v)) descriptor_seen (λ x xs. refl)
     _ c.args.values.now
     c.loop-value.value-index c.loop-value.descriptors.items c.loop-value.invariant c.loop-value-test.false refl)

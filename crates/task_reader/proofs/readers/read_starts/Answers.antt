@@ -12,9 +12,9 @@ use Rattle.task_reader.proofs.EachItem.{some_from}
 use Rattle.task_reader.proofs.FieldFaults.{field-fault}
 use Rattle.task_reader.proofs.readers.read_starts.Goals as goal
 
-listed : (ms : Members) (programs : List WrittenProgram) (names : List (List ℕ)) (starts : List WrittenStart) → names ≡ names_of_programs programs
-    → listed_starts names ms ≡ Some starts → written_starts ms programs ≡ some_start starts
-listed ms programs names starts same is = ap (λ n. option_and_then some_start (listed_starts n ms)) (sym same) ∙ ap (option_and_then some_start) is
+listed : (wide : Bool) (ms : Members) (programs : List WrittenProgram) (names : List (List ℕ)) (starts : List WrittenStart) → names ≡ names_of_programs programs
+    → listed_starts wide names ms ≡ Some starts → written_starts wide ms programs ≡ some_start starts
+listed wide ms programs names starts same is = ap (λ n. option_and_then some_start (listed_starts wide n ms)) (sym same) ∙ ap (option_and_then some_start) is
 
 decided : (starts : List WrittenStart) (b : Bool) → (length starts == 0) ≡ b → some_start starts ≡ cond b None (Some starts)
 decided starts b is = ap (λ x. cond x None (Some starts)) is
@@ -26,9 +26,9 @@ returns-in_err-starts c =
     let ms = table_view c.args.table.now in
     let programs = programs_seen c.args.read.now.programs.items in
     let same : map (λ n. n.now) c.args.read.now.names.keys ≡ names_of_programs programs = c.requires in
-    let told : FaultIs error (or_mistake Wrong_field (listed_starts (names_of_programs programs) ms)) =
-    subst (λ n. FaultIs error (or_mistake Wrong_field (listed_starts n ms))) same c.in_err-starts.ensures in
-    rw (p.1, p.2) (field-fault error (listed_starts (names_of_programs programs) ms) (written_starts ms programs) (λ none. ap (option_and_then some_start) none) told)
+    let told : FaultIs error (or_mistake Wrong_field (listed_starts c.args.further (names_of_programs programs) ms)) =
+    subst (λ n. FaultIs error (or_mistake Wrong_field (listed_starts c.args.further n ms))) same c.in_err-starts.ensures in
+    rw (p.1, p.2) (field-fault error (listed_starts c.args.further (names_of_programs programs) ms) (written_starts c.args.further ms programs) (λ none. ap (option_and_then some_start) none) told)
 
 pub returns-then-is_empty : goal.returns-then-is_empty
 returns-then-is_empty c =
@@ -38,7 +38,7 @@ returns-then-is_empty c =
     let same : map (λ n. n.now) c.args.read.now.names.keys ≡ names_of_programs programs = c.requires in
     let empty : (length (starts_seen starts.items) == 0) ≡ true =
     ap (λ n. n == 0) (length-map starts.items start_seen ∙ sym starts.ok.0) ∙ sym c.is_empty.ensures ∙ c.if-is_empty.true in
-    ap (or_mistake Wrong_field) (listed ms programs _ _ same (some_from Wrong_field _ _ c.in_ok-starts.ensures) ∙ decided _ _ empty)
+    ap (or_mistake Wrong_field) (listed c.args.further ms programs _ _ same (some_from Wrong_field _ _ c.in_ok-starts.ensures) ∙ decided _ _ empty)
 
 pub returns : goal.returns
 returns c =
@@ -48,4 +48,4 @@ returns c =
     let same : map (λ n. n.now) c.args.read.now.names.keys ≡ names_of_programs programs = c.requires in
     let some : (length (starts_seen starts.items) == 0) ≡ false =
     ap (λ n. n == 0) (length-map starts.items start_seen ∙ sym starts.ok.0) ∙ sym c.is_empty.ensures ∙ c.if-is_empty.false in
-    ap (or_mistake Wrong_field) (listed ms programs _ _ same (some_from Wrong_field _ _ c.in_ok-starts.ensures) ∙ decided _ _ some)
+    ap (or_mistake Wrong_field) (listed c.args.further ms programs _ _ same (some_from Wrong_field _ _ c.in_ok-starts.ensures) ∙ decided _ _ some)

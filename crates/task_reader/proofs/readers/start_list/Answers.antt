@@ -18,24 +18,24 @@ returns-in_err-written_start c =
     let v = c.value-item.result in
     let names = map (λ n. n.now) c.args.names.now.keys in
     let vs = c.args.values.now in
-    let none : written_start names (view v) ≡ None → each_item (written_start names) (items_view vs) ≡ None =
-    λ refused. stops {S = Value} (λ vs. each_item (written_start names) (items_view vs)) (λ v. written_start names (view v)) start_seen (λ x xs. refl)
+    let none : written_start c.args.further names (view v) ≡ None → each_item (written_start c.args.further names) (items_view vs) ≡ None =
+    λ refused. stops {S = Value} (λ vs. each_item (written_start c.args.further names) (items_view vs)) (λ v. written_start c.args.further names (view v)) start_seen (λ x xs. refl)
     _ vs c.loop-value.value-index v c.loop-value.starts.items
-    c.loop-value.invariant c.loop-value-test.true (ap (λ v. written_start names (view v)) (sym c.value-item.is) ∙ refused) in
-    rw (p.1, p.2) (field-fault error (written_start names (view v)) (each_item (written_start names) (items_view vs)) none c.in_err-written_start.ensures)
+    c.loop-value.invariant c.loop-value-test.true (ap (λ v. written_start c.args.further names (view v)) (sym c.value-item.is) ∙ refused) in
+    rw (p.1, p.2) (field-fault error (written_start c.args.further names (view v)) (each_item (written_start c.args.further names) (items_view vs)) none c.in_err-written_start.ensures)
 
 pub loop-value-preserved : goal.loop-value-preserved
 loop-value-preserved c =
     let names = map (λ n. n.now) c.args.names.now.keys in
-    let is : written_start names (view c.value-item.result) ≡ Some (start_seen c.in_ok-written_start.field-0) = some_from Wrong_field _ _ c.in_ok-written_start.ensures in
-    goes-on {S = Value} (λ vs. each_item (written_start names) (items_view vs)) (λ v. written_start names (view v)) start_seen (λ x xs. refl)
+    let is : written_start c.args.further names (view c.value-item.result) ≡ Some (start_seen c.in_ok-written_start.field-0) = some_from Wrong_field _ _ c.in_ok-written_start.ensures in
+    goes-on {S = Value} (λ vs. each_item (written_start c.args.further names) (items_view vs)) (λ v. written_start c.args.further names (view v)) start_seen (λ x xs. refl)
     _ c.args.values.now c.loop-value.value-index c.value-item.result
     c.loop-value.starts.items _ c.in_ok-written_start.field-0
-    c.loop-value.invariant c.loop-value-test.true (ap (λ v. written_start names (view v)) (sym c.value-item.is) ∙ is) c.in_ok-push.ensures.items
+    c.loop-value.invariant c.loop-value-test.true (ap (λ v. written_start c.args.further names (view v)) (sym c.value-item.is) ∙ is) c.in_ok-push.ensures.items
 
 pub returns : goal.returns
 returns c =
     let names = map (λ n. n.now) c.args.names.now.keys in
-    ap (or_mistake Wrong_field) (ends {S = Value} (λ vs. each_item (written_start names) (items_view vs)) (λ v. written_start names (view v)) start_seen (λ x xs. refl)
+    ap (or_mistake Wrong_field) (ends {S = Value} (λ vs. each_item (written_start c.args.further names) (items_view vs)) (λ v. written_start c.args.further names (view v)) start_seen (λ x xs. refl)
     _ c.args.values.now
     c.loop-value.value-index c.loop-value.starts.items c.loop-value.invariant c.loop-value-test.false refl)

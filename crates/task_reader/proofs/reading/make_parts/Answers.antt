@@ -5,7 +5,7 @@ use Rattle.std.proofs.lemmas.Result.{err_from_is_err_and}
 use Rattle.file_tree.specs.Nodes.{Node}
 use Rattle.rights.specs.Limits.{most_programs}
 use Rattle.std.proofs.Common.{take}
-use Rattle.task.specs.Plans.{Grant, NamedProgram, Start, plan_with}
+use Rattle.task.specs.Plans.{Grant, NamedProgram, Start, plan_in}
 use Rattle.task.specs.Limits.{is_plan}
 use Rattle.task_reader.specs.ApartViews.{first_assembled}
 use Rattle.task_reader.specs.FaultViews.{FaultIs}
@@ -35,9 +35,9 @@ starts-made : (w : TaskCode) (ss : List StartCode) (nodes : List Node) (starts :
     → or_mistake Wrong_descriptor (starts_placed nodes (starts_seen ss)) ≡ Ok starts → starts_placed nodes (task_seen w).starts ≡ Some starts
 starts-made w ss nodes starts same is = ap (λ xs. starts_placed nodes (starts_seen xs)) (sym same) ∙ some_from Wrong_descriptor _ _ is
 
-programs-made : (w : TaskCode) (ps : List ProgramCode) (programs : List NamedProgram) → ps ≡ w.programs.items → first_assembled (programs_seen ps) ≡ Ok programs
-    → first_assembled (task_seen w).programs ≡ Ok programs
-programs-made w ps programs same is = ap (λ xs. first_assembled (programs_seen xs)) (sym same) ∙ is
+programs-made : (w : TaskCode) (ps : List ProgramCode) (programs : List NamedProgram) → ps ≡ w.programs.items → first_assembled w.further_rights (programs_seen ps) ≡ Ok programs
+    → first_assembled w.further_rights (task_seen w).programs ≡ Ok programs
+programs-made w ps programs same is = ap (λ xs. first_assembled w.further_rights (programs_seen xs)) (sym same) ∙ is
 
 same-grants : (w : TaskCode) (gs : List GrantCode) (nodes : List Node) (grants made : List Grant) → gs ≡ w.grants.items
     → or_mistake Wrong_grant (grants_placed nodes (grants_seen gs)) ≡ Ok made → grants_placed nodes (task_seen w).grants ≡ Some grants → grants ≡ made
@@ -48,14 +48,14 @@ same-grants w gs nodes grants made same is placed =
 record Planned (task : WrittenTask) (nodes : List Node) (programs : List NamedProgram) (starts : List Start) : Type 0 where
   grants : List Grant
   placed : grants_placed nodes task.grants ≡ Some grants
-  reads : plan_of task ≡ Ok (plan_with nodes grants programs starts)
+  reads : plan_of task ≡ Ok (plan_in task.wide nodes grants programs starts)
 
 planned : (w : TaskCode) (nodes : List Node) (programs : List NamedProgram) (starts : List Start) → tree_of (task_seen w).nodes ≡ Some nodes
     → (grants : List Grant) × (policy_of nodes (task_seen w).grants ≡ Some grants) × (grants_placed nodes (task_seen w).grants ≡ Some grants)
-    → starts_placed nodes (task_seen w).starts ≡ Some starts → first_assembled (task_seen w).programs ≡ Ok programs → keeps_limits (task_seen w) nodes ≡ true
+    → starts_placed nodes (task_seen w).starts ≡ Some starts → first_assembled w.further_rights (task_seen w).programs ≡ Ok programs → keeps_limits (task_seen w) nodes ≡ true
     → Planned (task_seen w) nodes programs starts
 planned w nodes programs starts made granted started kept keeps =
-    let assembled : all_assembled (task_seen w).programs ≡ Ok programs = all-kept (task_seen w) nodes programs kept keeps in
+    let assembled : all_assembled w.further_rights (task_seen w).programs ≡ Ok programs = all-kept (task_seen w) nodes programs kept keeps in
     record {
       grants = granted.0;
       placed = granted.2;
@@ -99,10 +99,10 @@ returns-in_err-programs c =
     let granted = policy-made w _ nodes c.deref.ensures.value c.in_ok-check_policy.ensures in
     let starts = placed_starts c.in_ok-placed.placed.items in
     let started = starts-made w _ nodes starts c.deref-2.ensures.value c.in_ok-placed.ensures in
-    let told : FaultIs error (first_assembled task.programs) =
-    subst (λ ps. FaultIs error (first_assembled (programs_seen ps))) c.deref-3.ensures.value c.in_err-programs.ensures in
+    let told : FaultIs error (first_assembled task.wide task.programs) =
+    subst (λ ps. FaultIs error (first_assembled w.further_rights (programs_seen ps))) c.deref-3.ensures.value c.in_err-programs.ensures in
     rw (p.1, p.2)
-    (fails-programs task nodes made granted.0 granted.1 starts started error (fault-before error (all_assembled task.programs) (λ all. take most_programs all) told))
+    (fails-programs task nodes made granted.0 granted.1 starts started error (fault-before error (all_assembled task.wide task.programs) (λ all. take most_programs all) told))
 
 pub returns-then-not-keeps_limits : goal.returns-then-not-keeps_limits
 returns-then-not-keeps_limits c =
@@ -116,7 +116,7 @@ returns-then-not-keeps_limits c =
     let programs = programs_of c.in_ok-programs.programs.items in
     let kept = programs-made w _ programs c.deref-3.ensures.value c.in_ok-programs.ensures in
     let past = ap (λ ns. keeps_limits task (nodes_of ns)) (sym c.deref-4.ensures.value) ∙ sym c.keeps_limits.ensures ∙ c.if-not-keeps_limits.true in
-    let all = ok-then (all_assembled task.programs) (λ all. Ok (take most_programs all)) programs kept in
+    let all = ok-then (all_assembled task.wide task.programs) (λ all. Ok (take most_programs all)) programs kept in
     past-limit task nodes made granted.0 granted.1 starts started all.0 all.1 past
 
 pub returns-in_err-grants : goal.returns-in_err-grants
@@ -143,9 +143,9 @@ kept_starts-requires c =
     (policy-made w _ nodes c.deref.ensures.value c.in_ok-check_policy.ensures) (starts-made w _ nodes starts c.deref-2.ensures.value c.in_ok-placed.ensures)
     (programs-made w _ programs c.deref-3.ensures.value c.in_ok-programs.ensures)
     (ap (λ ns. keeps_limits (task_seen w) (nodes_of ns)) (sym c.deref-4.ensures.value) ∙ sym c.keeps_limits.ensures ∙ c.if-not-keeps_limits.false) in
-    let valid : is_plan (plan_with nodes plan.grants programs starts) ≡ true =
-    plan-valid (task_seen w) (plan_with nodes plan.grants programs starts) (task-written c.requires.document.0 (task_seen w) c.requires.document.1) plan.reads in
-    subst (λ ss. list_all is_small (placed_starts ss) ≡ true) (sym c.deref-6.ensures.value) (plan-small (plan_with nodes plan.grants programs starts) valid)
+    let valid : is_plan (plan_in w.further_rights nodes plan.grants programs starts) ≡ true =
+    plan-valid (task_seen w) (plan_in w.further_rights nodes plan.grants programs starts) (task-written c.requires.document.0 (task_seen w) c.requires.document.1) plan.reads in
+    subst (λ ss. list_all is_small (placed_starts ss) ≡ true) (sym c.deref-6.ensures.value) (plan-small (plan_in w.further_rights nodes plan.grants programs starts) valid)
 
 pub returns : goal.returns
 returns c =
@@ -161,4 +161,4 @@ returns c =
     let same = same-grants w _ nodes plan.grants (grants_of c.in_ok-grants.grants.items) c.deref-5.ensures.value c.in_ok-grants.ensures plan.placed in
     let kept : starts_of c.in_ok-starts.starts.items ≡ starts = c.in_ok-starts.ensures ∙ ap placed_starts c.deref-6.ensures.value in
     plan.reads
-    ∙ ap Ok (ap (λ gs. plan_with nodes gs programs starts) same ∙ ap (λ ss. plan_with nodes (grants_of c.in_ok-grants.grants.items) programs ss) (sym kept))
+    ∙ ap Ok (ap (λ gs. plan_in w.further_rights nodes gs programs starts) same ∙ ap (λ ss. plan_in w.further_rights nodes (grants_of c.in_ok-grants.grants.items) programs ss) (sym kept))

@@ -38,7 +38,7 @@ make_parts-requires c = record {
 pub new-requires : goal.new-requires
 new-requires c =
     let task = task_seen c.args.written.now in
-    plan-valid task (plan_on (nodes_of c.in_ok-tree.tree.nodes.items) c.in_ok-parts.parts) (task-written c.requires.0 task c.requires.1) c.in_ok-parts.ensures
+    plan-valid task (plan_on c.args.written.now.further_rights (nodes_of c.in_ok-tree.tree.nodes.items) c.in_ok-parts.parts) (task-written c.requires.0 task c.requires.1) c.in_ok-parts.ensures
 
 pub returns : goal.returns
 returns c = c.in_ok-parts.ensures ∙ ap Ok (sym c.new.ensures)

@@ -11,19 +11,21 @@ use Rattle.task_text.proofs.program_texts.texts_of_file.Goals as goal
 
 pub loop-program-preserved : goal.loop-program-preserved
 loop-program-preserved c =
+    let wide = c.args.task.now.wide in
     let programs = c.programs-program-items.result.now in
     let program = c.program-item.result in
     let texts = c.loop-program.texts.items in
     let text : ProgramText = record { code = c.unwrap_or-code.result; instructions = c.in_ok-instructions.instructions } in
-    let lines : AreLinesOf (texts_at text.code.bytes.items text.instructions.items) program.program =
-    subst (AreLinesOf (texts_at text.code.bytes.items text.instructions.items)) c.code.ensures.value
-    (subst (λ bytes. AreLinesOf (texts_at bytes text.instructions.items) (code_of c.code.result.now)) c.deref.ensures.value c.in_ok-instructions.ensures)
+    let lines : AreLinesOf wide (texts_at text.code.bytes.items text.instructions.items) program.program =
+    subst (AreLinesOf wide (texts_at text.code.bytes.items text.instructions.items)) c.code.ensures.value
+    (subst (λ bytes. AreLinesOf wide (texts_at bytes text.instructions.items) (code_of c.code.result.now)) c.deref.ensures.value
+    (subst (λ own. AreLinesOf own (texts_at c.deref.result.now text.instructions.items) (code_of c.code.result.now)) c.further_rights.ensures c.in_ok-instructions.ensures))
     in
     let there = ap (λ n. slice_get (codes_in (programs_of programs)) n) c.loop-program.invariant.0
     ∙ code-there programs c.loop-program.program-index program c.loop-program-test.true c.program-item.is in (
       ap length c.in_ok-push.ensures.items ∙ length-append texts (text ∷ []) ∙ ap (λ n. n + 1) c.loop-program.invariant.0,
-      subst (λ texts. AreTextsOf texts (codes_in (programs_of programs))) (sym c.in_ok-push.ensures.items) (
-          one-text texts (codes_in (programs_of programs)) text program.program c.loop-program.invariant.1 there lines
+      subst (λ texts. AreTextsOf wide texts (codes_in (programs_of programs))) (sym c.in_ok-push.ensures.items) (
+          one-text wide texts (codes_in (programs_of programs)) text program.program c.loop-program.invariant.1 there lines
           ),
     )
 

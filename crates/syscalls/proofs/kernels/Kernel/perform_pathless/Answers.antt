@@ -59,3 +59,6 @@ returns-in-CapGetmode g c = performs_as g.T.Tree.nodes c.args.self c.get_mode.ne
 
 pub returns-in-Socketpair : goal.returns-in-Socketpair
 returns-in-Socketpair g c = performs_as g.T.Tree.nodes c.args.self c.make_pair.new.self.0 c.make_pair.new.self.1.0 c.make_pair.result _ _ (ap syscall_of c.in-Socketpair.is) c.make_pair.ensures
+
+pub returns-in-Use : goal.returns-in-Use
+returns-in-Use g c = performs_as g.T.Tree.nodes c.args.self c.use_right.new.self.0 c.use_right.new.self.1.0 c.use_right.result _ _ (ap syscall_of c.in-Use.is) c.use_right.ensures
