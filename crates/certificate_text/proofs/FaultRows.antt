@@ -37,7 +37,8 @@ abbrev of_first : List ℕ → Reading
 of_first line = certificate_of_text (text (line ∷ codes "end" ∷ []))
 
 no_version :
-    (of_first (codes "capcert 5") ≡ fails Syntax 0) × (of_first (codes "capcert 04") ≡ fails Syntax 0) × (of_first (codes "capcert 03") ≡ fails Syntax 0) × (of_first (codes "capcert 0") ≡ fails Syntax 0) ×
+    (of_first (codes "capcert 5") ≡ fails Syntax 0) × (of_first (codes "capcert 04") ≡ fails Syntax 0) × (of_first (codes "capcert 03") ≡ fails Syntax 0)
+    × (of_first (codes "capcert 0") ≡ fails Syntax 0) ×
     (of_first (codes "capcert 02") ≡ fails Syntax 0)
     × (of_first (codes "capcert 2x") ≡ fails Syntax 0) × (of_first (codes "capcert 12") ≡ fails Syntax 0) × (of_first (codes "capcert 1 ") ≡ fails Syntax 0)
     × (of_first (codes "capcert  2") ≡ fails Syntax 0) × (of_first (codes "capcert 2 1") ≡ fails Syntax 0) × (of_first (codes "capcert") ≡ fails Syntax 0)

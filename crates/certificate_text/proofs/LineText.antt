@@ -163,7 +163,8 @@ held-is version (what ∷ words) h is =
 
     go : (grant any sock unknown : Bool) → bytes_eq what (codes "grant") ≡ grant → bytes_eq what (codes "any") ≡ any → bytes_eq what (codes "sock") ≡ sock
         → bytes_eq what (codes "unknown") ≡ unknown
-        → cond grant (grant_behind version words) (cond any (held_behind version (Ok Any_node) words) (cond sock (socket_behind version words) (cond unknown (held_behind version (Ok Unknown) words) (Err Syntax)))) ≡ Ok h
+        → cond grant (grant_behind version words) (cond any (held_behind version (Ok Any_node) words)
+        (cond sock (socket_behind version words) (cond unknown (held_behind version (Ok Unknown) words) (Err Syntax)))) ≡ Ok h
         → HeldIs version (what ∷ words) h
     go true any sock unknown a b c d is = behind (codes "grant") a (grant-is version words h is)
     go false true sock unknown a b c d is = behind (codes "any") b (plain-is version Any_node words h refl refl is)
@@ -349,7 +350,8 @@ end-is version has (class ∷ side ∷ []) line is =
     })
 end-is version has (class ∷ side ∷ more ∷ words) line is = absurd cc
 
-later-is : (version : Version) → has_authorities version ≡ true → (first : List ℕ) (words : List (List ℕ)) (line : Line) → later_line version first words ≡ Ok line → LineIs version (first ∷ words) line
+later-is : (version : Version) → has_authorities version ≡ true → (first : List ℕ) (words : List (List ℕ)) (line : Line)
+    → later_line version first words ≡ Ok line → LineIs version (first ∷ words) line
 later-is version has first words line is = go (bytes_eq first (codes "auth")) (bytes_eq first (codes "ceil")) (bytes_eq first (codes "hold")) refl refl refl is
   where
     behind : (word : List ℕ) → bytes_eq first word ≡ true → LineIs version (word ∷ words) line → LineIs version (first ∷ words) line
@@ -371,7 +373,8 @@ words-are version (first ∷ words) line is =
     behind word same read = subst (λ w. LineIs version (w ∷ words) line) (sym (same_bytes first word same)) read
 
     go : (at fd chan has : Bool) → bytes_eq first (codes "at") ≡ at → bytes_eq first (codes "fd") ≡ fd → bytes_eq first (codes "chan") ≡ chan → has_authorities version ≡ has
-        → cond at (block_of_words words) (cond fd (descriptor_of_words version words) (cond chan (channel_of_words version words) (cond has (later_line version first words) (other_line first words)))) ≡ Ok line
+        → cond at (block_of_words words) (cond fd (descriptor_of_words version words)
+        (cond chan (channel_of_words version words) (cond has (later_line version first words) (other_line first words)))) ≡ Ok line
         → LineIs version (first ∷ words) line
     go true fd chan has a b c d is = behind (codes "at") a (block-is version words line is)
     go false true chan has a b c d is = behind (codes "fd") b (descriptor-is version words line is)

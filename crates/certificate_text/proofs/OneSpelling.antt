@@ -75,7 +75,8 @@ one-line : (c d : Certificate) (line : Line) (offset : ℕ) (lines : List TextLi
     → read_behind c ((record { text = line_text c.version line; offset = offset; is_ended = true }) ∷ lines) ≡ read_behind d lines
 unfolding read_behind
 one-line c d line offset lines proper own take =
-    ap (λ (last : Bool). cond last (closed c lines) (going_on offset (λ e. read_behind e lines) (grown_by_line c (line_of_text c.version (line_text c.version line))))) (text-goes-on c.version line proper own)
+    ap (λ (last : Bool). cond last (closed c lines) (going_on offset (λ e. read_behind e lines) (grown_by_line c (line_of_text c.version (line_text c.version line)))))
+    (text-goes-on c.version line proper own)
     ∙ ap (λ read. going_on offset (λ e. read_behind e lines) (grown_by_line c read)) (line-back c.version line proper own)
     ∙ ap (λ after. going_on offset (λ e. read_behind e lines) (line_taken after)) take
 

@@ -35,7 +35,8 @@ module _ (version : Version) where
       go true rest = rest
       go false rest = ap (λ text. line_ended version (Bounds_slot n s) ++ text) rest
 
-  pub block-text : (b : PointBound) → line_ended version (Begins_block b.program b.point b.bound.mode) ++ (in_order (register_text version) 0 b.bound.registers ++ in_order (slot_text version) 0 b.bound.slots) ≡ block_text version b
+  pub block-text : (b : PointBound) → line_ended version (Begins_block b.program b.point b.bound.mode)
+      ++ (in_order (register_text version) 0 b.bound.registers ++ in_order (slot_text version) 0 b.bound.slots) ≡ block_text version b
   block-text b =
       ap (λ rest. line_ended version (Begins_block b.program b.point b.bound.mode) ++ rest)
       (ap (λ text. text ++ in_order (slot_text version) 0 b.bound.slots) (registers-text 0 b.bound.registers)
@@ -62,7 +63,8 @@ module _ (version : Version) where
   ends-text n [] = refl
   ends-text n (held ∷ holds) = ap (λ rest. end_text version held ++ rest) (ends-text (n + 1) holds)
 
-  pub authority-text : (a : Authority) → line_ended version (Begins_authority a.program) ++ (in_order (λ n. ceiling_text version) 0 a.ceilings ++ in_order (λ n. end_text version) 0 a.holds) ≡ authority_text version a
+  pub authority-text : (a : Authority) → line_ended version (Begins_authority a.program)
+      ++ (in_order (λ n. ceiling_text version) 0 a.ceilings ++ in_order (λ n. end_text version) 0 a.holds) ≡ authority_text version a
   authority-text a =
       ap (λ rest. line_ended version (Begins_authority a.program) ++ rest)
       (ap (λ text. text ++ in_order (λ n. end_text version) 0 a.holds) (ceilings-text 0 a.ceilings)

@@ -19,5 +19,6 @@ first-fails f (Err e) = refl
 pub no-side : (version : Version) (class side : List ℕ) (words : List (List ℕ)) → side_of_word side ≡ None → channel_of_words version (class ∷ side ∷ words) ≡ Err Syntax
 no-side version class side words none =
     ap (λ (o : Option ℕ). both (λ (given : Option Held → Line) sends. given sends) (both channel_with (class_of_word class) (formed o)) (sends_of_words version words)) none
-    ∙ ap (λ (front : Result (Option Held → Line) Fault). both (λ (given : Option Held → Line) sends. given sends) front (sends_of_words version words)) (second-fails channel_with (class_of_word class))
+    ∙ ap (λ (front : Result (Option Held → Line) Fault). both (λ (given : Option Held → Line) sends. given sends) front (sends_of_words version words))
+    (second-fails channel_with (class_of_word class))
     ∙ first-fails (λ (given : Option Held → Line) sends. given sends) (sends_of_words version words)

@@ -8,7 +8,8 @@ use Rattle.rights.specs.Values.{RightSet}
 use Rattle.texts.specs.Bytes.{colon, line_feed, space}
 use Rattle.texts.specs.Hex.{hex_text}
 use Rattle.texts.specs.Parts.{joined}
-use Rattle.certificate.specs.Bounds.{ModeBound, Off, On, Either, Target, In_grant, Any_node, Socket, Unknown, Held, Slot, Closed, Open, Maybe, Version, One, Two, Three, Four, Certificate, tells_further}
+use Rattle.certificate.specs.Bounds.{ModeBound, Off, On, Either, Target, In_grant, Any_node, Socket, Unknown, Held}
+use Rattle.certificate.specs.Bounds.{Slot, Closed, Open, Maybe, Version, One, Two, Three, Four, Certificate, tells_further}
 use Rattle.certificate.specs.Lines.{Line, Begins_block, Bounds_register, Bounds_slot, Bounds_channel, Begins_authority, Bounds_grant, Holds_end, lines_of}
 
 -- the bytes `@` and `r`

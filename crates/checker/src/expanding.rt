@@ -68,7 +68,9 @@ fn push_behind(
     points: &[Point],
 ) -> Result<(), Refusal>
     ensures { Grows result expanded.new
-        (grown_by (map (told_point expanded.old.version) (flat_map (λ name. points_along task.now cert.now name None 0 most_instructions) (programs_behind (name_of last.now) (points_of points.now)))) expanded.old) }
+        (grown_by (map (told_point expanded.old.version)
+        (flat_map (λ name. points_along task.now cert.now name None 0 most_instructions) (programs_behind (name_of last.now) (points_of points.now))))
+        expanded.old) }
 {
     match points {
         [] => Ok(()),

@@ -17,10 +17,8 @@ use crate::rule::{AuthorityRule, CallRule, Rule, SlotRule};
 use crate::starts::{is_started, starts_within};
 use crate::uses::{KeepsRule, in_the_mode};
 use certificate::Bound;
-use instruction_set::{Instruction, Syscall};
-use transfer::{
-    all_uses_pass, demanded, enters_mode, keeps_beneath, keeps_numbers, keeps_single, may_be_on,
-};
+use instruction_set::{Instruction, Syscall, enters_mode};
+use transfer::{all_uses_pass, demanded, keeps_beneath, keeps_numbers, keeps_single, may_be_on};
 
 /// Whether a call keeps a rule that is asked of each slot that it goes through.
 fn keeps_slot_rule(rule: SlotRule, at: &AskedPoint<'_>, bound: &Bound, call: &Syscall) -> bool

@@ -11,11 +11,11 @@ use crate::scenes::{BoundedPoint, Scene};
 use crate::starting::add_start;
 use checker::starts::is_bounded_start;
 use checker::{AuthorityRule, BrokenRule, CallRule, Rule, SlotRule, instruction_at};
-use instruction_set::Instruction;
+use instruction_set::{Instruction, enters_mode};
 use std::alloc::Global;
 use task::is_marked;
 use texts::{Name, Page, say};
-use transfer::{Site, enters_mode};
+use transfer::Site;
 
 /// What a rule asks, in a sentence, of a task that asks for further rights or of another. (own)
 pub fn rule_words(wide: bool, rule: Rule) -> &'static str

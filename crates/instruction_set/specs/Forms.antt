@@ -1,6 +1,6 @@
 -- The instructions by their words, and what each wants behind it. A new instruction is a line of
 -- `mnemonics` and one of `written_at` or `syscall_at`. (own)
-use Rattle.std.specs.Prelude.{ℕ, Bool, true, false, List, [], ◌∷◌, codes, Option, Some, None, option_map, if◌then◌else◌}
+use Rattle.std.specs.Prelude.{ℕ, ◌||◌, not, Bool, true, false, List, [], ◌∷◌, codes, Option, Some, None, option_map, if◌then◌else◌}
 use Rattle.std.specs.Str.{bytes_eq}
 use Rattle.rights.specs.Calls.{Call, call_name}
 use Rattle.rights.specs.Calls as calls
@@ -47,10 +47,13 @@ mnemonic_among [] word = None
 mnemonic_among (m ∷ ms) word = if bytes_eq word (mnemonic_name m) then Some m else mnemonic_among ms word
 
 -- `use` is a word of the wide language alone.
+abbrev pub is_wide_word : Mnemonic → Bool
+is_wide_word (Make calls.Use) = true
+is_wide_word _ = false
+
 abbrev pub known_in : Bool → Option Mnemonic → Option Mnemonic
 known_in wide None = None
-known_in wide (Some (Make calls.Use)) = if wide then Some (Make calls.Use) else None
-known_in wide (Some m) = Some m
+known_in wide (Some m) = if not (is_wide_word m) || wide then Some m else None
 
 abbrev pub mnemonic_of : Bool → List ℕ → Option Mnemonic
 mnemonic_of wide word = known_in wide (mnemonic_among mnemonics word)

@@ -9,6 +9,11 @@ always_succeeds Cap_enter = true
 always_succeeds Cap_getmode = true
 always_succeeds _ = false
 
+-- whether it enters capability mode (cap_enter(2))
+abbrev pub enters_mode : Instruction → Bool
+enters_mode (Invoke Cap_enter otherwise) = true
+enters_mode _ = false
+
 -- the next point, and that of a jump or of an `else`
 abbrev pub successors : Instruction → ℕ → List ℕ
 successors (Set register value) point = (point + 1) ∷ []

@@ -37,9 +37,11 @@ impl Syscall {
     pub fn first_rights(&self) -> Rights
         ensures { result.0 ≡ first_rights (syscall_of self.now) }
     {
-        match self {
-            Syscall::Use { right, .. } => companions_of(*right),
-            _ => needs(self.call(), self.flags(), Position::First, false),
+        let right = self.further();
+        if right == Rights::empty() {
+            needs(self.call(), self.flags(), Position::First, false)
+        } else {
+            companions_of(right)
         }
     }
 
@@ -49,7 +51,20 @@ impl Syscall {
     {
         match self {
             Syscall::Use { right, .. } => *right,
-            _ => Rights::empty(),
+            Syscall::Open { .. } | Syscall::Openat { .. } | Syscall::Stat { .. } => Rights::empty(),
+            Syscall::Read { .. } | Syscall::Write { .. } | Syscall::Lseek { .. } => Rights::empty(),
+            Syscall::Sendfd { .. } | Syscall::Recvfd { .. } => Rights::empty(),
+            Syscall::Ftruncate { .. } | Syscall::Fsync { .. } => Rights::empty(),
+            Syscall::Fstat { .. } | Syscall::Fstatat { .. } => Rights::empty(),
+            Syscall::FcntlGetfl { .. } | Syscall::FcntlSetfl { .. } => Rights::empty(),
+            Syscall::Mkdirat { .. } | Syscall::Mkdir { .. } => Rights::empty(),
+            Syscall::Unlinkat { .. } | Syscall::Unlink { .. } => Rights::empty(),
+            Syscall::Renameat { .. } | Syscall::Dup { .. } | Syscall::Close { .. } => {
+                Rights::empty()
+            }
+            Syscall::CapRightsLimit { .. } | Syscall::CapFcntlsLimit { .. } => Rights::empty(),
+            Syscall::CapEnter | Syscall::CapGetmode => Rights::empty(),
+            Syscall::Socketpair | Syscall::Fork => Rights::empty(),
         }
     }
 

@@ -13,4 +13,4 @@ pub use instructions::{Instruction, Syscall};
 pub use languages::is_spoken;
 pub use operands::{Operand, Path, Register, is_valid_path};
 pub use programs::Program;
-pub use successors::{Successors, successors_at};
+pub use successors::{Successors, enters_mode, successors_at};

@@ -2,7 +2,7 @@
 
 ghost use Rattle.std.specs.Prelude.{◌≡◌, ◌-◌, ◌^◌, ◌<◌, ◌==◌};
 ghost use Rattle.std.specs.List.{list_any};
-ghost use Rattle.instruction_set.specs.Successors.{always_succeeds, successors, successors_at};
+ghost use Rattle.instruction_set.specs.Successors.{always_succeeds, enters_mode, successors, successors_at};
 ghost use Rattle.instruction_set.specs.Views.{code_of, instruction_of, successors_of, syscall_of};
 
 use crate::instructions::{Instruction, Syscall};
@@ -20,7 +20,33 @@ pub struct Successors {
 fn always_succeeds(call: &Syscall) -> bool
     ensures { result ≡ always_succeeds (syscall_of call.now) }
 {
-    matches!(call, Syscall::CapEnter | Syscall::CapGetmode)
+    match call {
+        Syscall::CapEnter | Syscall::CapGetmode => true,
+        Syscall::Open { .. } | Syscall::Openat { .. } | Syscall::Stat { .. } => false,
+        Syscall::Read { .. } | Syscall::Write { .. } | Syscall::Lseek { .. } => false,
+        Syscall::Sendfd { .. } | Syscall::Recvfd { .. } => false,
+        Syscall::Ftruncate { .. } | Syscall::Fsync { .. } => false,
+        Syscall::Fstat { .. } | Syscall::Fstatat { .. } => false,
+        Syscall::FcntlGetfl { .. } | Syscall::FcntlSetfl { .. } => false,
+        Syscall::Mkdirat { .. } | Syscall::Mkdir { .. } => false,
+        Syscall::Unlinkat { .. } | Syscall::Unlink { .. } => false,
+        Syscall::Renameat { .. } | Syscall::Dup { .. } | Syscall::Close { .. } => false,
+        Syscall::CapRightsLimit { .. } | Syscall::CapFcntlsLimit { .. } => false,
+        Syscall::Socketpair | Syscall::Fork | Syscall::Use { .. } => false,
+    }
+}
+
+/// Whether an instruction enters capability mode. (cap_enter(2))
+pub fn enters_mode(instruction: &Instruction) -> bool
+    ensures { result ≡ enters_mode (instruction_of instruction.now) }
+{
+    matches!(
+        instruction,
+        Instruction::Invoke {
+            call: Syscall::CapEnter,
+            ..
+        }
+    )
 }
 
 /// Where an instruction at a point leads.

@@ -9,7 +9,8 @@ use Rattle.instruction_set.specs.Fields.{read_name}
 use Rattle.instruction_set.specs.Forms.{Field, Mnemonic, Set, Mov, Add, In, Jmp, Jeq, Jlt, Halt, Make, Written, Leading, After_error, nothing, one, two, three, four, whole, word_at, ◌>>=◌}
 use Rattle.instruction_set.specs.Forms.{commands_at, directory_at, else_at, flags_at, further_at, label_at, number_at, operand_at, path_at, register_at, rights_at, syscall_at, written_at, written_of}
 use Rattle.instruction_set.specs.Programs.{Syscall}
-use Rattle.prog_asm.specs.OperandForms.{Form, Unfit, Register, Number, Operand, Path, Flags, Rights, AllRights, FurtherRight, Commands, Label, Directory, Else, behind_one, call_forms, first_unfit, forms_of, is_of, rights_form}
+use Rattle.prog_asm.specs.OperandForms.{Form, Unfit, Register, Number, Operand, Path, Flags, Rights, AllRights, FurtherRight}
+use Rattle.prog_asm.specs.OperandForms.{Commands, Label, Directory, Else, behind_one, call_forms, first_unfit, forms_of, is_of, rights_form}
 
 -- whether words are of forms
 abbrev fits : List Form → List (List ℕ) → Bool
@@ -175,7 +176,8 @@ call-takes wide calls.Renameat words =
     operand-takes path-takes (Else ∷ Label ∷ []) words
 call-takes wide calls.Dup words = one-takes (λ forms. Operand ∷ forms) operand_at _ operand-takes (Else ∷ Label ∷ []) words
 call-takes wide calls.Close words = one-takes (λ forms. Operand ∷ forms) operand_at _ operand-takes (Else ∷ Label ∷ []) words
-call-takes wide calls.Cap_rights_limit words = two-takes (λ forms. Operand ∷ forms) (λ forms. rights_form wide ∷ forms) operand_at (rights_at wide) _ operand-takes (rights-takes wide) (Else ∷ Label ∷ []) words
+call-takes wide calls.Cap_rights_limit words = two-takes (λ forms. Operand ∷ forms) (λ forms. rights_form wide ∷ forms) operand_at (rights_at wide)
+    _ operand-takes (rights-takes wide) (Else ∷ Label ∷ []) words
 call-takes wide calls.Cap_fcntls_limit words = two-takes (λ forms. Operand ∷ forms) (λ forms. Commands ∷ forms) operand_at commands_at _ operand-takes commands-takes (Else ∷ Label ∷ []) words
 call-takes wide calls.Cap_enter words = refl
 call-takes wide calls.Cap_getmode words = refl

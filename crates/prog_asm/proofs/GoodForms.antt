@@ -1,6 +1,6 @@
 -- What the grammar's fields and forms give is valid.
-use Rattle.std.proofs.Common.{◌≡◌, ◌-◌, ◌<◌, ◌≤◌, ℕ, Bool, true, false, List, [], ◌∷◌, refl, ap, ◌∙◌, subst, arith}
-use Rattle.std.specs.Prelude.{◌&&◌, ◌||◌, bit_or, codes, Option, Some, None, cond, nat_lt, nat_le, option_map, option_and_then, ◌==◌}
+use Rattle.std.proofs.Common.{◌≡◌, ◌-◌, ◌<◌, ◌≤◌, ℕ, Bool, true, false, List, [], ◌∷◌, refl, ap, ◌∙◌, subst, sym, arith}
+use Rattle.std.specs.Prelude.{◌&&◌, ◌||◌, bit_or, codes, Option, Some, None, cond, not, if◌then◌else◌, nat_lt, nat_le, option_map, option_and_then, ◌==◌}
 use Rattle.std.proofs.lemmas.Bool.{ltb-true, lt-ltb, leb-true}
 use Rattle.std.specs.List.{list_all}
 use Rattle.std.specs.Str.{bytes_eq}
@@ -17,9 +17,11 @@ use Rattle.texts.specs.Numbers.{at_most, number_of}
 use Rattle.instruction_set.specs.Programs.{Operand, Register, Number, Syscall, is_instruction, is_operand, is_path, is_register, is_syscall, is_value}
 use Rattle.instruction_set.specs.Programs as programs
 use Rattle.instruction_set.specs.Languages.{is_spoken, speaks}
-use Rattle.instruction_set.specs.Fields.{before_last, read_commands, read_flags, further_in, is_word_among, set_of_word, read_further, read_rights, rights_in, union_from, operand_from, read_operand, path_in, read_path}
+use Rattle.instruction_set.specs.Fields.{before_last, read_commands, read_flags, further_in, is_word_among, set_of_word, read_further}
+use Rattle.instruction_set.specs.Fields.{read_rights, rights_in, union_from, operand_from, read_operand, path_in, read_path}
 use Rattle.instruction_set.specs.Fields.{read_register, request_of, set_of, flag_names, valid_request, read_value}
-use Rattle.instruction_set.specs.Forms.{Field, Always, If_equal, If_less, After_error, Mnemonic, Set, Mov, Add, In, Jmp, Jeq, Jlt, Halt, Make, Written, Alone, Leading, commands_at, further_at, known_in}
+use Rattle.instruction_set.specs.Forms.{Field, Always, If_equal, If_less, After_error, Mnemonic, Set, Mov, Add, In, Jmp}
+use Rattle.instruction_set.specs.Forms.{Jeq, Jlt, Halt, Make, Written, Alone, Leading, commands_at, further_at, is_wide_word, known_in}
 use Rattle.instruction_set.specs.Forms.{directory_at, else_at, flags_at, four, label_at, led, nothing, number_at, one, operand_at, path_at, register_at, rights_at, syscall_at, three, two}
 use Rattle.instruction_set.specs.Forms.{whole, word_at, written_at, written_of, ◌>>=◌}
 
@@ -230,9 +232,12 @@ Known wide mnemonic = known_in wide (Some mnemonic) ≡ Some mnemonic
 
 known-twice : (wide : Bool) (mnemonic : Option Mnemonic) → known_in wide (known_in wide mnemonic) ≡ known_in wide mnemonic
 known-twice wide None = refl
-known-twice true (Some (Make calls.Use)) = refl
-known-twice false (Some (Make calls.Use)) = refl
-known-twice wide (Some mnemonic) = refl
+known-twice wide (Some mnemonic) = kept (not (is_wide_word mnemonic) || wide) refl
+  where
+    kept : (known : Bool) → (not (is_wide_word mnemonic) || wide) ≡ known → known_in wide (known_in wide (Some mnemonic)) ≡ known_in wide (Some mnemonic)
+    kept true is = ap (known_in wide) (ap (λ k. if k then Some mnemonic else None) is)
+    kept false is = let unknown : known_in wide (Some mnemonic) ≡ None = ap (λ k. if k then Some mnemonic else None) is in
+        ap (known_in wide) unknown ∙ sym unknown
 
 pub known-is : (wide : Bool) (found : Option Mnemonic) (mnemonic : Mnemonic) → known_in wide found ≡ Some mnemonic → Known wide mnemonic
 known-is wide found mnemonic is = subst (λ known. known_in wide known ≡ known) is (known-twice wide found)
@@ -240,15 +245,18 @@ known-is wide found mnemonic is = subst (λ known. known_in wide known ≡ known
 D : (wide : Bool) (make : Operand → Syscall) → ((o : Operand) → is_operand o ≡ true → GoodCall wide (make o)) → Gives (one operand_at make) (GoodCall wide)
 D wide make good = one-good operand_at make (λ o. is_operand o ≡ true) (GoodCall wide) operand_at-good good
 
-DV : (wide : Bool) (make : Operand → Operand → Syscall) → ((o v : Operand) → is_operand o ≡ true → is_operand v ≡ true → GoodCall wide (make o v)) → Gives (two operand_at operand_at make) (GoodCall wide)
+DV : (wide : Bool) (make : Operand → Operand → Syscall) → ((o v : Operand) → is_operand o ≡ true → is_operand v ≡ true → GoodCall wide (make o v))
+    → Gives (two operand_at operand_at make) (GoodCall wide)
 DV wide make good = two-good operand_at operand_at make (λ o. is_operand o ≡ true) (λ o. is_operand o ≡ true) (GoodCall wide) operand_at-good operand_at-good good
 
-DP : (wide : Bool) (make : Operand → List ℕ → Syscall) → ((o : Operand) (p : List ℕ) → is_operand o ≡ true → is_path p ≡ true → GoodCall wide (make o p)) → Gives (two operand_at path_at make) (GoodCall wide)
+DP : (wide : Bool) (make : Operand → List ℕ → Syscall) → ((o : Operand) (p : List ℕ) → is_operand o ≡ true → is_path p ≡ true → GoodCall wide (make o p))
+    → Gives (two operand_at path_at make) (GoodCall wide)
 DP wide make good = two-good operand_at path_at make (λ o. is_operand o ≡ true) (λ p. is_path p ≡ true) (GoodCall wide) operand_at-good path_at-good good
 
 syscall-good : (wide : Bool) (call : Call) → Known wide (Make call) → Gives (syscall_at wide call) (GoodCall wide)
 unfolding syscall_at
-syscall-good wide calls.Open known = two-good path_at flags_at programs.Open (λ p. is_path p ≡ true) (λ f. is_valid f ≡ true) (GoodCall wide) path_at-good flags_at-good (λ p f a b. (both _ _ a b, refl))
+syscall-good wide calls.Open known = two-good path_at flags_at programs.Open (λ p. is_path p ≡ true) (λ f. is_valid f ≡ true) (GoodCall wide)
+    path_at-good flags_at-good (λ p f a b. (both _ _ a b, refl))
 syscall-good wide calls.Openat known = three-good operand_at path_at flags_at programs.Openat (λ o. is_operand o ≡ true) (λ p. is_path p ≡ true)
     (λ f. is_valid f ≡ true) (GoodCall wide) operand_at-good path_at-good flags_at-good (λ o p f a b c. (both _ _ (both _ _ a b) c, refl))
 syscall-good wide calls.Read known = D wide programs.Read (λ o a. (a, refl))
@@ -268,7 +276,8 @@ syscall-good wide calls.Mkdirat known = DP wide programs.Mkdirat (λ o p a b. (b
 syscall-good wide calls.Mkdir known = one-good path_at programs.Mkdir (λ p. is_path p ≡ true) (GoodCall wide) path_at-good (λ p a. (a, refl))
 syscall-good wide calls.Unlinkat known = three-good operand_at path_at directory_at programs.Unlinkat (λ o. is_operand o ≡ true) (λ p. is_path p ≡ true)
     (λ _. Unit {0}) (GoodCall wide) operand_at-good path_at-good (any_field directory_at) (λ o p d a b c. (both _ _ a b, refl))
-syscall-good wide calls.Unlink known = two-good path_at directory_at programs.Unlink (λ p. is_path p ≡ true) (λ _. Unit {0}) (GoodCall wide) path_at-good (any_field directory_at) (λ p d a b. (a, refl))
+syscall-good wide calls.Unlink known = two-good path_at directory_at programs.Unlink (λ p. is_path p ≡ true) (λ _. Unit {0}) (GoodCall wide)
+    path_at-good (any_field directory_at) (λ p d a b. (a, refl))
 syscall-good wide calls.Renameat known = four-good operand_at path_at operand_at path_at programs.Renameat (λ o. is_operand o ≡ true) (λ p. is_path p ≡ true)
     (λ o. is_operand o ≡ true) (λ p. is_path p ≡ true) (GoodCall wide) operand_at-good path_at-good operand_at-good path_at-good
     (λ o p t q a b c d. (both _ _ (both _ _ (both _ _ a b) c) d, refl))

@@ -136,7 +136,8 @@ together-first : (lines : List (List ℕ)) (read : List Line) → first_fault (f
 together-first lines read = steps-first lines (point_named read) (steps_of read) (falls_off lines (steps_of read)) (complete (steps_of read)) (falls-first lines (steps_of read))
 
 -- LINE BY LINE
-lines-first : (wide : Bool) (all : List (List ℕ)) (before : List Line) (lines : List (List ℕ)) → first_fault (faults_behind wide all before lines) ≡ fault_in (lines_behind wide before lines >>= program_read)
+lines-first : (wide : Bool) (all : List (List ℕ)) (before : List Line) (lines : List (List ℕ))
+    → first_fault (faults_behind wide all before lines) ≡ fault_in (lines_behind wide before lines >>= program_read)
 lines-first wide all before [] = together-first all before
 lines-first wide all before (line ∷ lines) = go (line_read wide line) (wrong_on wide line) (line-mistake wide line) (λ read. lines-first wide all (before ++ read ∷ []) lines)
   where

@@ -2,7 +2,7 @@
 
 ghost use Rattle.std.specs.Prelude.{◌≡◌, map, option_map};
 ghost use Rattle.prog_asm.specs.FormViews.{mnemonic_from};
-ghost use Rattle.instruction_set.specs.Forms.{mnemonic_among, mnemonic_name, mnemonic_of};
+ghost use Rattle.instruction_set.specs.Forms.{is_wide_word, mnemonic_among, mnemonic_name, mnemonic_of};
 
 use rights::Call;
 
@@ -78,6 +78,13 @@ impl Mnemonic {
             Mnemonic::Make(call) => call.name(),
         }
     }
+
+    /// Whether it is a word of the wide language alone. (own)
+    pub fn is_wide(self) -> bool
+        ensures { result ≡ is_wide_word (mnemonic_from self) }
+    {
+        matches!(self, Mnemonic::Make(Call::Use))
+    }
 }
 
 /// The first of these that the word is.
@@ -98,7 +105,7 @@ pub(crate) fn mnemonic_of(wide: bool, word: &[u8]) -> Option<Mnemonic>
     ensures { option_map mnemonic_from result ≡ mnemonic_of wide word.now }
 {
     match mnemonic_among(&MNEMONICS, word) {
-        Some(Mnemonic::Make(Call::Use)) if !wide => None,
-        mnemonic => mnemonic,
+        Some(mnemonic) if !mnemonic.is_wide() || wide => Some(mnemonic),
+        _ => None,
     }
 }

@@ -9,7 +9,7 @@ use Rattle.certificate.specs.Bounds.{Bound, Certificate, Held, held_in, slot}
 use Rattle.certificate.specs.Order.{slot_within}
 use Rattle.instruction_set.specs.Programs.{Instruction, Invoke, Operand, Register, Number}
 use Rattle.rules.specs.Needs.{Through, needs}
-use Rattle.rules.specs.Outcomes.{enters_mode}
+use Rattle.instruction_set.specs.Successors.{enters_mode}
 use Rattle.rules.specs.Slots.{may_be_on}
 use Rattle.task.specs.Plans.{NamedProgram, Plan, Start}
 use Rattle.remarks.specs.Marked.{skipping_marked, unsettled_marked}

@@ -3,8 +3,7 @@ use Rattle.std.specs.Prelude.{◌&&◌, not, ℕ, Bool, List, Option, filter, ma
 use Rattle.std.specs.List.{list_any}
 use Rattle.certificate.specs.Bounds.{Bound}
 use Rattle.instruction_set.specs.Programs.{Instruction}
-use Rattle.instruction_set.specs.Successors.{successors_at}
-use Rattle.rules.specs.Outcomes.{enters_mode}
+use Rattle.instruction_set.specs.Successors.{enters_mode, successors_at}
 use Rattle.remarks.specs.Remarks.{bound_here, has_mode, is_halt, is_there}
 use Rattle.remarks.specs.Warnings.{may_be_off}
 use Rattle.remarks.specs.Ways.{from_which, is_flagged, only, points}

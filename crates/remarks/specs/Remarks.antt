@@ -11,9 +11,8 @@ use Rattle.instruction_set.specs.Programs.{Instruction, Jeq, Jlt, Halt, Invoke, 
 use Rattle.call_facts.specs.Arguments.{first_operand}
 use Rattle.call_facts.specs.Facts.{forks, frees}
 use Rattle.std.specs.Option.{option_map_or}
-use Rattle.instruction_set.specs.Successors.{successors_at}
+use Rattle.instruction_set.specs.Successors.{enters_mode, successors_at}
 use Rattle.rules.specs.Needs.{Through, Passed, Nothing, Sent, Received, needs}
-use Rattle.rules.specs.Outcomes.{enters_mode}
 use Rattle.rules.specs.Slots.{may_be_on, operand_interval}
 use Rattle.remarks.specs.Ways.{from_which, is_flagged, points}
 

@@ -19,7 +19,7 @@ use Rattle.call_facts.specs.Facts.{concerns_mode, frees}
 use Rattle.rights.specs.Limits.{most_descriptors}
 use Rattle.rules.specs.Authority.{authority_at}
 use Rattle.rules.specs.Demands.{demands}
-use Rattle.rules.specs.Outcomes.{enters_mode}
+use Rattle.instruction_set.specs.Successors.{enters_mode}
 use Rattle.rules.specs.Slots.{OpenSlot, may_be_on, slots_in}
 use Rattle.task.specs.Plans.{FirstDescriptor, FirstObject, On_end, On_node, Grant, NamedProgram, Plan, Start, program_name}
 use Rattle.task.specs.Policies.{grant_lists}

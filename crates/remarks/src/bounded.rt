@@ -11,7 +11,7 @@ ghost use Rattle.remarks.specs.Remarks.{is_either_at, is_fork, is_halt, stays_id
 ghost use Rattle.remarks.specs.Remarks.{may_be_number, parts_at, may_close, may_go_through, may_name_number};
 ghost use Rattle.remarks.specs.Ways.{from_which, is_flagged, points};
 ghost use Rattle.instruction_set.specs.Views.{code_of, instruction_of, operand_of, successors_of};
-ghost use Rattle.rules.specs.Outcomes.{enters_mode as enters_mode_seen};
+ghost use Rattle.instruction_set.specs.Successors.{enters_mode as enters_mode_seen};
 ghost use Rattle.rules.specs.Slots.{may_be_on};
 ghost use Rattle.transfer.specs.Views.{through_of};
 
@@ -19,9 +19,9 @@ use crate::point_test::PointTest;
 use crate::ways::{count, from_which, is_flagged};
 use call_facts::{first_operand, forks, frees};
 use certificate::{Bound, Domain, Held, ModeBound, Target};
-use instruction_set::{Instruction, Operand, Successors, successors_at};
+use instruction_set::{Instruction, Operand, Successors, enters_mode, successors_at};
 use std::alloc::{AllocError, Global};
-use transfer::{Passed, Through, enters_mode, may_be_on, needed, operand_interval};
+use transfer::{Passed, Through, may_be_on, needed, operand_interval};
 
 /// A program, and the bounds of its points.
 #[derive(Drop)]

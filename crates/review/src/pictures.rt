@@ -11,13 +11,13 @@ use bitflags::Flags;
 use certificate::{Cert, Class, Target as Kind};
 use checker::BrokenRule;
 use explain::add_points;
-use instruction_set::Instruction;
+use instruction_set::{Instruction, enters_mode};
 use page::{Half, HalfKind, Note, Picture, Program, Row, Target, Tone};
 use remarks::unlisted_rights;
 use rights::Rights;
 use task::{Grant, Task};
 use texts::{Page, Say, parts_of, say};
-use transfer::{channel_at, enters_mode};
+use transfer::channel_at;
 
 /// The classes of pairs, by their numbers: as they come first.
 #[derive(Drop)]

@@ -6,6 +6,7 @@
 pub mod calls;
 pub mod errors;
 pub mod limits;
+mod named_rights;
 pub mod need_table;
 pub mod opens;
 pub mod operations;

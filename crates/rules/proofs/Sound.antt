@@ -30,7 +30,8 @@ use Rattle.task.specs.Sandboxed.{AreAllowed, IsInMode, IsUnrefused}
 use Rattle.task.proofs.FirstWorlds.{first_well_formed}
 use Rattle.task.proofs.KeptLimits.{plans_keep_limits}
 use Rattle.task.proofs.Trusted.{trusted_tasks_are_sandboxed}
-use Rattle.rules.specs.Outcomes.{enters_mode, is_followed}
+use Rattle.instruction_set.specs.Successors.{enters_mode}
+use Rattle.rules.specs.Outcomes.{is_followed}
 use Rattle.rules.specs.Points.{instruction_at}
 use Rattle.rules.specs.Rules.{marked_at}
 use Rattle.rules.specs.Verdicts.{IsConfining, IsHeldWithin, IsSound, MeetsRules}
@@ -331,4 +332,5 @@ sound plan certificate valid none meets = trusted_tasks_are_sandboxed plan valid
 
 pub held_within : IsHeldWithin
 held_within plan certificate valid meets events speak =
-    stay_within plan certificate (plans_keep_limits plan valid) meets (first_well_formed plan valid).0 (first_world plan) events speak (first_spoken plan) (first_invariant plan certificate valid meets)
+    stay_within plan certificate (plans_keep_limits plan valid) meets (first_well_formed plan valid).0 (first_world plan) events speak (first_spoken plan)
+    (first_invariant plan certificate valid meets)

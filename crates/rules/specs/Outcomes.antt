@@ -13,8 +13,10 @@ use Rattle.rights.specs.Sides.{other_side}
 use Rattle.certificate.specs.Bounds.{ModeBound, Off, On, Either, Interval, interval, with_interval, Target, In_grant, Any_node, Socket, Unknown, Held, Closed, with_slot, Bound, Certificate}
 use Rattle.certificate.specs.Bounds as bounds
 use Rattle.instruction_set.specs.Programs.{Operand, Syscall, Open, Openat, Read, Write, Sendfd, Recvfd, Lseek, Ftruncate, Fsync, Fstat, Fcntl_getfl, Fcntl_setfl, Fstatat, Stat, Mkdirat}
-use Rattle.instruction_set.specs.Programs.{Mkdir, Unlinkat, Unlink, Renameat, Dup, Close, Cap_rights_limit, Cap_fcntls_limit, Cap_enter, Cap_getmode, Socketpair, Fork, Use as Call_use, Instruction, Set}
+use Rattle.instruction_set.specs.Programs.{Mkdir, Unlinkat, Unlink, Renameat, Dup, Close, Cap_rights_limit}
+use Rattle.instruction_set.specs.Programs.{Cap_fcntls_limit, Cap_enter, Cap_getmode, Socketpair, Fork, Use as Call_use, Instruction, Set}
 use Rattle.instruction_set.specs.Programs.{Mov, Add, In, Jmp, Jeq, Jlt, Halt, Invoke}
+use Rattle.instruction_set.specs.Successors.{enters_mode}
 use Rattle.task.specs.Plans.{Grant, Plan, is_marked}
 use Rattle.rules.specs.Intervals.{only, sums, equal_part, other_part, lower_part, upper_part}
 use Rattle.rules.specs.Slots.{OpenSlot, slots_in, free_numbers}
@@ -219,10 +221,6 @@ module _ (grants : List Grant) (certificate : Certificate) (name : List ℕ) (po
   successes (Invoke call otherwise) = if is_formed certificate b call then successes_of call else []
 
 -- A process of a marked program isn't followed into capability mode: there its authority bounds it, and not its points.
-abbrev pub enters_mode : Instruction → Bool
-enters_mode (Invoke Cap_enter otherwise) = true
-enters_mode _ = false
-
 abbrev pub is_followed : Plan → Name → Instruction → Bool
 is_followed plan name i = not (is_marked plan.programs name && enters_mode i)
 

@@ -20,7 +20,8 @@ use Rattle.rules.specs.Slots.{OpenSlot, may_be_on}
 use Rattle.rules.specs.Uses.{Use, uses}
 use Rattle.rules.specs.Channels.{keeps_channel_bound, all_have_channels}
 use Rattle.rules.specs.Demands.{demands, keeps_single, keeps_numbers, keeps_beneath}
-use Rattle.rules.specs.Outcomes.{Outcome, enters_mode, successes_in, error_outcomes}
+use Rattle.instruction_set.specs.Successors.{enters_mode}
+use Rattle.rules.specs.Outcomes.{Outcome, successes_in, error_outcomes}
 use Rattle.rules.specs.Authority.{authority_at, may_have_slots, may_start_all, keeps_ceilings, keeps_moves, keeps_received, keeps_sent}
 
 -- A rule, by its number, and whether it is kept at a point.

@@ -28,7 +28,7 @@ use Rattle.certificate.specs.GrowthViews.{Grows}
 use Rattle.certificate.specs.declared.lines.Refusal.{Refusal}
 use Rattle.certificate.specs.declared.lines.Refusal.TheVariants.{Limit, Order, Memory}
 use Rattle.certificate.specs.Told.{untold_held}
-use Rattle.rules.specs.Outcomes.{enters_mode}
+use Rattle.instruction_set.specs.Successors.{enters_mode}
 use Rattle.searcher.specs.Flat.{code_of_start, first_held, first_target, plain_flat, flat_bound, flat_points, flat_points_of, grant_target, have_own, flat_mode, name_of_start}
 use Rattle.searcher.specs.Flat.{nearer, next_behind, points_behind, points_from, with_first, with_next}
 use Rattle.certificate.proofs.Growths.{by_append}

@@ -8,7 +8,7 @@ use Rattle.certificate.specs.Bounds.{Slot, Open, Bound, Version}
 use Rattle.certificate.specs.Growth.{open_bound}
 use Rattle.certificate.specs.Told.{is_told_bound, is_told_slot, told_bound}
 use Rattle.certificate.proofs.ToldLaws.{held_is_told, told_bound_stays}
-use Rattle.rules.specs.Outcomes.{enters_mode}
+use Rattle.instruction_set.specs.Successors.{enters_mode}
 use Rattle.task.specs.Plans.{FirstDescriptor, Start, Plan}
 use Rattle.searcher.specs.Flat.{code_of_start, first_held, first_target, flat_bound, flat_mode, with_first}
 use Rattle.searcher.specs.Versions.{flat_version}

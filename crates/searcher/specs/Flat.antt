@@ -13,7 +13,7 @@ use Rattle.certificate.specs.Told.{told_held}
 use Rattle.instruction_set.specs.Programs.{Instruction}
 use Rattle.task.specs.Plans.{Grant, FirstObject, On_node, On_end, FirstDescriptor, Start, Plan, program_name, programs_of_plan, none_marked}
 use Rattle.task.specs.Limits.{all_apart}
-use Rattle.rules.specs.Outcomes.{enters_mode}
+use Rattle.instruction_set.specs.Successors.{enters_mode}
 use Rattle.searcher.specs.Versions.{flat_version}
 
 -- the grant that holds a place, of which there is one at most

@@ -13,12 +13,11 @@ use crate::point_states::{PointState, ProgramPoints};
 use crate::rounds::first_bound;
 use crate::versions::marked_version;
 use certificate::{Bound, Ceiling, Cert, Domain, End, Held, Line, Refusal, Target, Version};
-use instruction_set::Instruction;
+use instruction_set::{Instruction, enters_mode};
 use rights::Rights;
 use std::alloc::{AllocError, Global};
 use task::{Start, Task};
 use texts::Name;
-use transfer::enters_mode;
 
 /// What a program needs in the mode: rights in grants, by their names, as a certificate of this version says them, and ends in the
 /// order of channels.

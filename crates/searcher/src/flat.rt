@@ -12,7 +12,7 @@ ghost use Rattle.task.specs.Plans.{programs_of_plan};
 ghost use Rattle.task.specs.Views.{first_descriptor_of, first_object_of, grants_of, nodes_of, start_of, starts_of};
 ghost use Rattle.certificate.specs.Growths.{grown_by};
 ghost use Rattle.certificate.specs.GrowthViews.{Grows};
-ghost use Rattle.rules.specs.Outcomes.{enters_mode};
+ghost use Rattle.instruction_set.specs.Successors.{enters_mode};
 ghost use Rattle.searcher.specs.Flat.{first_held, first_target, flat, plain_flat, flat_bound, flat_points_of, grant_target, have_own, flat_mode, name_of_start};
 ghost use Rattle.searcher.specs.Flat.{next_behind, points_behind, points_from, with_first};
 ghost use Rattle.searcher.specs.Versions.{flat_version};
@@ -22,11 +22,10 @@ use certificate::{
     Bound, Cert, Class, FcntlsRange, Held, ModeBound, Pair, Refusal, RightsRange, Slot, Target,
     push_block,
 };
-use instruction_set::Instruction;
+use instruction_set::{Instruction, enters_mode};
 use std::alloc::{AllocError, Global};
 use task::{FirstDescriptor, FirstObject, Grant, Start, Task, TaskNode, node_begins, none_marked};
 use texts::Name;
-use transfer::enters_mode;
 
 /// The grant that holds a node, by its number, if one does.
 #[tactic(auto, unfolding(crate::specs::Flat::grant_target))]

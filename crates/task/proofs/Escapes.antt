@@ -56,7 +56,8 @@ one_step plan valid p act spoken is escapes confined =
     let run = confined ((event p, act) ∷ []) (spoken, tt) first.some.0 (fresh_in (first_world plan) p act first.some.0 first.some.1) (lit< tt) is in
     escapes first.some.0 run.0
 
-three_steps : (plan : Plan) → is_plan plan ≡ true → (p q r : ℕ) (one two three : Act) → IsSpoken plan.wide one × IsSpoken plan.wide two × IsSpoken plan.wide three → IsAct (programs_of_plan plan) (first_world plan) p one →
+three_steps : (plan : Plan) → is_plan plan ≡ true → (p q r : ℕ) (one two three : Act)
+    → IsSpoken plan.wide one × IsSpoken plan.wide two × IsSpoken plan.wide three → IsAct (programs_of_plan plan) (first_world plan) p one →
     ((c : Choice) → IsAct (programs_of_plan plan) (after plan (first_world plan) p one c) q two) →
     ((c d : Choice) → IsAct (programs_of_plan plan) (after plan (after plan (first_world plan) p one c) q two d) r three) →
     ((c d f : Choice) → Contains plan (after plan (after plan (first_world plan) p one c) q two d) r three f → ⊥) → IsConfined plan → ⊥

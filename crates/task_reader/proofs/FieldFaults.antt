@@ -3,7 +3,8 @@ use Rattle.std.proofs.Common.{◌≡◌, List, ℕ, Option, Some, None, Err, ℤ
 use Rattle.rights.specs.Sets.{all_rights, all_commands, command_names}
 use Rattle.toml.specs.Data.{Members, get_member}
 use Rattle.task_reader.specs.Documents.{integer_at, only_keys, read_or}
-use Rattle.task_reader.specs.Written.{access_in, asks_further, descriptor_in, descriptor_with, object_written, path_written, path_keys, path_with, reading, rights_listed, set_in, WrittenObject, WrittenNode}
+use Rattle.task_reader.specs.Written.{access_in, asks_further, descriptor_in, descriptor_with, object_written, path_written}
+use Rattle.task_reader.specs.Written.{path_keys, path_with, reading, rights_listed, set_in, WrittenObject, WrittenNode}
 use Rattle.task_reader.specs.Written.{WrittenGrant, WrittenProgram, WrittenStart, task_in, task_keys, task_with, written_nodes, written_grants, written_programs, written_starts, written_task}
 use Rattle.std.specs.Prelude.{option_and_then}
 use Rattle.instruction_set.specs.Assembly.{Fault}

@@ -55,7 +55,8 @@ module _ (task : WrittenTask) where
         on-starts = on-grants ∙ ap (λ o. or_mistake Wrong_descriptor o >>= with_starts task tree grants) started
 
         pub fails-programs : (e : TaskFault) → FaultIs e (all_assembled task.wide task.programs) → FaultIs e (plan_of task)
-        fails-programs e is = subst (FaultIs e) (sym on-starts) (fault-passes e (all_assembled task.wide task.programs) (λ programs. within_limits task (plan_in task.wide tree grants programs starts)) is)
+        fails-programs e is = subst (FaultIs e) (sym on-starts) (fault-passes e (all_assembled task.wide task.programs)
+            (λ programs. within_limits task (plan_in task.wide tree grants programs starts)) is)
 
         module _ (programs : List NamedProgram) (assembled : all_assembled task.wide task.programs ≡ Ok programs) where
           on-programs : plan_of task ≡ within_limits task (plan_in task.wide tree grants programs starts)

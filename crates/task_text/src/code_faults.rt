@@ -9,8 +9,7 @@ use crate::near::meant;
 use crate::places::part;
 use crate::program_texts::codes_of;
 use indexmap::IndexSet;
-use prog_asm::{Form, LineFault, LineMistake, MNEMONICS, Mnemonic, line_faults, line_parts};
-use rights::Call;
+use prog_asm::{Form, LineFault, LineMistake, MNEMONICS, line_faults, line_parts};
 use rights::limits::MAX_INSTRUCTIONS;
 use std::alloc::{AllocError, Global};
 use texts::{Line, Lines, Page, parts_of};
@@ -50,7 +49,7 @@ impl<'t> Labels<'t> {
 fn instruction_words(alloc: Global, wide: bool) -> Result<Vec<&'static str>, AllocError> {
     let mut words = Vec::new(alloc);
     for mnemonic in &MNEMONICS {
-        if wide || !matches!(mnemonic, Mnemonic::Make(Call::Use)) {
+        if wide || !mnemonic.is_wide() {
             words.push(mnemonic.name())?;
         }
     }

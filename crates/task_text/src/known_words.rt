@@ -104,23 +104,19 @@ pub(crate) fn flag_words() -> &'static [&'static str]
     &["read", "write", "append", "create", "trunc"]
 }
 
-/// The rights and fcntl commands of FreeBSD that no task can name, but for the further rights where it asks for them. (rights(4),
-/// cap_fcntls_limit(2))
-const FREEBSD_WORDS: &str =
-    "ACCEPT ACL_CHECK ACL_DELETE ACL_GET ACL_SET BIND BINDAT CHFLAGSAT CONNECT CONNECTAT EVENT \
-    EXTATTR_DELETE EXTATTR_GET EXTATTR_LIST EXTATTR_SET FCHDIR FCHFLAGS FCHMOD FCHMODAT FCHOWN FCHOWNAT \
-    FEXECVE FLOCK FPATHCONF FSCK FSTATFS FUTIMES FUTIMESAT GETOWN GETPEERNAME GETSOCKNAME GETSOCKOPT \
-    IOCTL KQUEUE KQUEUE_CHANGE KQUEUE_EVENT LINKAT_SOURCE LINKAT_TARGET LISTEN MAC_GET MAC_SET MKFIFOAT \
-    MKNODAT MMAP MMAP_R MMAP_RW MMAP_RWX MMAP_RX MMAP_W MMAP_WX MMAP_X PDGETPID PDKILL PEELOFF PREAD \
-    PWRITE SEM_GETVALUE SEM_POST SEM_WAIT SETOWN SETSOCKOPT SHUTDOWN SYMLINKAT TTYHOOK";
+/// The rights and fcntl commands of FreeBSD that no task can name. (rights(4), cap_fcntls_limit(2))
+const UNNAMED_WORDS: &str =
+    "ACL_CHECK ACL_DELETE ACL_GET ACL_SET BINDAT CHFLAGSAT EXTATTR_DELETE EXTATTR_GET EXTATTR_LIST \
+    EXTATTR_SET FSCK GETOWN KQUEUE LINKAT_SOURCE LINKAT_TARGET MAC_GET MAC_SET MKFIFOAT MKNODAT MMAP MMAP_RW \
+    MMAP_RWX MMAP_RX MMAP_WX PEELOFF PREAD PWRITE SEM_GETVALUE SEM_POST SEM_WAIT SETOWN SYMLINKAT";
 
-/// Whether a word is one of these that the task can't name, with `CAP_` before it or without.
+/// Whether a word is one of these, or a further right where the task asks for none, with `CAP_` before it or without.
 pub(crate) fn is_of_freebsd(wide: bool, word: &[u8]) -> bool {
     let name = word.strip_prefix(b"CAP_".as_slice()).unwrap_or(word);
-    if wide && is_known(name, further_words()) {
-        return false;
+    if is_known(name, further_words()) {
+        return !wide;
     }
-    FREEBSD_WORDS
+    UNNAMED_WORDS
         .as_bytes()
         .split(|byte| *byte == b' ')
         .any(|one| one == name)

@@ -3,7 +3,7 @@
 ghost use Rattle.std.specs.Prelude.{◌≡◌, true, option_map};
 ghost use Rattle.certificate.specs.Views.{bound_of, interval_of};
 ghost use Rattle.instruction_set.specs.Views.{instruction_of};
-ghost use Rattle.rules.specs.Outcomes.{enters_mode, equal_outcomes, error_outcomes, less_outcomes, outcomes_in};
+ghost use Rattle.rules.specs.Outcomes.{equal_outcomes, error_outcomes, less_outcomes, outcomes_in};
 ghost use Rattle.transfer.specs.CallViews.{plain_successes_at, successes_at};
 ghost use Rattle.transfer.specs.Kept.{TestsEach};
 ghost use Rattle.transfer.specs.Limits.{leaves_known};
@@ -15,7 +15,7 @@ use crate::intervals::{equal_part, lower_part, only, other_part, sums, upper_par
 use crate::outcomes::{Change, Outcome};
 use crate::successes::{OutcomeVisitor, Site, next_passes};
 use certificate::{Bound, Interval};
-use instruction_set::{Instruction, Register, Syscall};
+use instruction_set::{Instruction, Register, enters_mode};
 use task::is_marked;
 
 /// Whether a point passes with a register in an interval, if there is one.
@@ -129,19 +129,6 @@ fn plain_successes_pass<T: OutcomeVisitor>(
         interval,
     };
     next_passes(site, bound, change, visitor)
-}
-
-/// Whether an instruction enters capability mode. (cap_enter(2))
-pub fn enters_mode(instruction: &Instruction) -> bool
-    ensures { result ≡ enters_mode (instruction_of instruction.now) }
-{
-    matches!(
-        instruction,
-        Instruction::Invoke {
-            call: Syscall::CapEnter,
-            ..
-        }
-    )
 }
 
 /// Whether each outcome of an instruction passes that is no error's: it is asked about each until one doesn't, and about

@@ -22,7 +22,7 @@ pub use carrying::carried_on;
 pub use channels::{HasChannel, all_have_channels, channel_at};
 pub use demands::{Demands, demanded, keeps_beneath, keeps_numbers, keeps_single};
 pub use failing::{OpenSlot, failing_slots, failing_through};
-pub use instructions::{enters_mode, failure, successes_pass};
+pub use instructions::{failure, successes_pass};
 pub use outcomes::{Change, Outcome};
 pub use slots::{FreeNumbers, Takes, free_numbers, is_single, may_be_on, operand_interval};
 pub use successes::{OutcomeVisitor, Site};

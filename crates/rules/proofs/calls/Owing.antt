@@ -17,7 +17,7 @@ use Rattle.kernel.specs.WellFormed.{IsWellFormed}
 use Rattle.task.specs.Plans.{Plan, programs_of_plan}
 use Rattle.task.specs.Sandboxed.{AreAllowed, IsOtherCause, IsUnrefused}
 use Rattle.kernel.proofs.Marks.{AreMarkedAs}
-use Rattle.rules.specs.Outcomes.{enters_mode}
+use Rattle.instruction_set.specs.Successors.{enters_mode}
 use Rattle.rules.specs.Points.{instruction_at}
 use Rattle.rules.specs.Seen.{table_seen}
 use Rattle.rules.proofs.worlds.Walks.{rests}

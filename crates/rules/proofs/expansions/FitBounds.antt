@@ -8,7 +8,8 @@ use Rattle.std.proofs.lemmas.List.{length-map, length-set}
 use Rattle.std.proofs.lemmas.List.Folds.{list_all-append}
 use Rattle.rights.specs.Classes.{Class}
 use Rattle.rights.specs.Limits.{most_descriptors, register_count}
-use Rattle.certificate.specs.Bounds.{ModeBound, Interval, Target, In_grant, Any_node, Socket, Unknown, Held, Slot, Closed, Open, Maybe, Bound, ChannelBound, PointBound, Version, One, Two, Three, Four, held_in}
+use Rattle.certificate.specs.Bounds.{ModeBound, Interval, Target, In_grant, Any_node, Socket, Unknown, Held, Slot, Closed}
+use Rattle.certificate.specs.Bounds.{Open, Maybe, Bound, ChannelBound, PointBound, Version, One, Two, Three, Four, held_in}
 use Rattle.certificate.specs.Told.{told_bound, untold_bound, untold_slot}
 use Rattle.certificate.specs.Bounds.{with_interval, with_slot, bound_in}
 use Rattle.certificate.specs.Growth.{programs_of_channel, programs_of_class, programs_of_held, programs_of_target}

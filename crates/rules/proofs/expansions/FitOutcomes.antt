@@ -16,7 +16,8 @@ use Rattle.certificate.proofs.Fits.{is_fit}
 use Rattle.certificate.proofs.Growing.{and_left, and_right, both_true}
 use Rattle.rights.specs.Sides.{other_side}
 use Rattle.instruction_set.specs.Programs.{Operand, Syscall, Open, Openat, Read, Write, Sendfd, Recvfd, Lseek, Ftruncate, Fsync, Fstat, Fcntl_getfl, Fcntl_setfl, Fstatat, Stat, Mkdirat}
-use Rattle.instruction_set.specs.Programs.{Mkdir, Unlinkat, Unlink, Renameat, Dup, Close, Cap_rights_limit, Cap_fcntls_limit, Cap_enter, Cap_getmode, Socketpair, Fork, Use as Call_use, Instruction, Set}
+use Rattle.instruction_set.specs.Programs.{Mkdir, Unlinkat, Unlink, Renameat, Dup, Close, Cap_rights_limit}
+use Rattle.instruction_set.specs.Programs.{Cap_fcntls_limit, Cap_enter, Cap_getmode, Socketpair, Fork, Use as Call_use, Instruction, Set}
 use Rattle.instruction_set.specs.Programs.{Mov, Add, In, Jmp, Jeq, Jlt, Halt, Invoke}
 use Rattle.task.specs.Plans.{Grant}
 use Rattle.rules.specs.Carrying.{joined_at, joined_with}

@@ -67,7 +67,8 @@ module _ (plan : Plan) (certificate : Certificate) (program : ℕ) (asked : Auth
   own = program_name plan program
 
   -- What a right lets do at a place in each grant that holds the descriptor's is allowed.
-  pub may_do : (right : ℕ) (operation : Operation) → Among (right, operation) operations_of_rights → (not (is_within right 0) && is_said plan.wide right) ≡ true → (from place : List (List ℕ)) (rights : ℕ)
+  pub may_do : (right : ℕ) (operation : Operation) → Among (right, operation) operations_of_rights → (not (is_within right 0) && is_said plan.wide right) ≡ true
+      → (from place : List (List ℕ)) (rights : ℕ)
       → IsBelowCeiling plan.wide plan.grants a from rights → is_within right rights ≡ true
       → ((name : List ℕ) → grant_holds plan.grants name from ≡ true → grant_holds plan.grants name place ≡ true) → Allowed plan.grants operation place
   may_do right operation one is from place rights below has beneath =

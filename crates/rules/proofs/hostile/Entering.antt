@@ -20,7 +20,7 @@ use Rattle.kernel.specs.Steps.{answered, executed}
 use Rattle.task.specs.Plans.{Plan}
 use Rattle.task.specs.Policies.{grant_holds}
 use Rattle.rules.specs.Authority.{may_have_slot}
-use Rattle.rules.specs.Outcomes.{enters_mode}
+use Rattle.instruction_set.specs.Successors.{enters_mode}
 use Rattle.rules.proofs.bounds.Describing.{described, slot_at}
 use Rattle.rules.proofs.calls.OwedCalls.{quiet}
 use Rattle.rules.proofs.frames.Arrivals.{child_owed, lives_on, own_owed}

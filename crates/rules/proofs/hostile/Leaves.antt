@@ -84,7 +84,8 @@ module _ (plan : Plan) (certificate : Certificate) (w : World) (e : Event) (s : 
         subst (λ o. MayHave plan.wide plan.grants (own_authority plan certificate s.program) (program_name plan s.program) (subject_of plan (tree_after w.tree tree) o) rights)
         (sym (file_object w.files.objects choice number n access append rights fcntls)) adds
     of_new tree (New_pair first second class) adds later =
-        let Has : Object → Type 0 = λ o. MayHave plan.wide plan.grants (own_authority plan certificate s.program) (program_name plan s.program) (subject_of plan (tree_after w.tree tree) o) all_rights in (
+        let Has : Object → Type 0 = λ o. MayHave plan.wide plan.grants (own_authority plan certificate s.program) (program_name plan s.program)
+        (subject_of plan (tree_after w.tree tree) o) all_rights in (
           subst Has (sym (first_object w.files.objects choice first second class known.acts.fresh.apart)) (subst (λ c. Has (At_end choice.pair 0 c)) (sym adds) refl),
           subst Has (sym (second_object w.files.objects choice first second class)) (subst (λ c. Has (At_end choice.pair 1 c)) (sym adds) refl),
         )

@@ -126,8 +126,10 @@ same_name_may plan certificate w one other d same is =
     subst (λ n. MayHave plan.wide plan.grants (authority_at certificate n) n (subject_of plan w.tree (w.files.objects d.description)) d.rights) same is
 
 -- at a place in each grant that holds the first
-pub below_at : (plan : Plan) (certificate : Certificate) (program : ℕ) (from place : List (List ℕ)) (rights : ℕ) → IsBelowCeiling plan.wide plan.grants (own_authority plan certificate program) from rights
-    → ((name : List ℕ) → grant_holds plan.grants name from ≡ true → grant_holds plan.grants name place ≡ true) → IsBelowCeiling plan.wide plan.grants (own_authority plan certificate program) place rights
+pub below_at : (plan : Plan) (certificate : Certificate) (program : ℕ) (from place : List (List ℕ)) (rights : ℕ)
+    → IsBelowCeiling plan.wide plan.grants (own_authority plan certificate program) from rights
+    → ((name : List ℕ) → grant_holds plan.grants name from ≡ true → grant_holds plan.grants name place ≡ true)
+    → IsBelowCeiling plan.wide plan.grants (own_authority plan certificate program) place rights
 below_at plan certificate program from place rights is beneath = record { name = is.name; holds = beneath is.name is.holds; below = is.below }
 
 module _ (plan : Plan) (certificate : Certificate) (w : World) (e : Event) (s : ProcessState) (choice : Choice) (known : Roams plan certificate w e.process s choice) where
@@ -138,7 +140,8 @@ module _ (plan : Plan) (certificate : Certificate) (w : World) (e : Event) (s : 
   Under call = under_way (programs_of_plan plan) s ≡ Some call
 
   -- what a right of a descriptor lets do, at its place or beneath it
-  pub may : (right : ℕ) (operation : Operation) → Among (right, operation) operations_of_rights → (not (is_within right 0) && is_said plan.wide right) ≡ true → (from place : List (List ℕ)) (rights : ℕ)
+  pub may : (right : ℕ) (operation : Operation) → Among (right, operation) operations_of_rights → (not (is_within right 0) && is_said plan.wide right) ≡ true
+      → (from place : List (List ℕ)) (rights : ℕ)
       → IsBelowCeiling plan.wide plan.grants (own_authority plan certificate s.program) from rights → is_within right rights ≡ true
       → ((name : List ℕ) → grant_holds plan.grants name from ≡ true → grant_holds plan.grants name place ≡ true) → Allowed plan.grants operation place
   may = may_do plan certificate s.program known.asked

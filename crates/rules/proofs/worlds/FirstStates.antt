@@ -169,7 +169,8 @@ module _ (plan : Plan) (certificate : Certificate) (valid : is_plan plan ≡ tru
           own true is h = h
           own false is h = absurd cc
 
-      may_have : (x : FirstObject) (rights : ℕ) → may_start_on plan.wide plan a rights x ≡ true → MayHave plan.wide plan.grants a (program_name plan st.program) (subject_of plan plan.nodes (first_object x)) rights
+      may_have : (x : FirstObject) (rights : ℕ) → may_start_on plan.wide plan a rights x ≡ true
+          → MayHave plan.wide plan.grants a (program_name plan st.program) (subject_of plan plan.nodes (first_object x)) rights
       may_have (On_node n access) rights may =
           let place = (node plan.nodes n).place in
           let found = any_found (is_below_ceiling plan.wide a rights place) plan.grants may in

@@ -20,4 +20,5 @@ loop-authority-preserved g c =
     c.in_ok-write_authority.field-0 c.in_ok-write_authority.ensures
 
 pub returns : goal.returns
-returns g c = loop-end authority_of (λ n. authority_text (version_of c.args.version)) c.args.authorities.now _ _ _ _ _ _ c.loop-authority.authority-index _ tt c.loop-authority-test.false c.loop-authority.invariant
+returns g c = loop-end authority_of (λ n. authority_text (version_of c.args.version))
+    c.args.authorities.now _ _ _ _ _ _ c.loop-authority.authority-index _ tt c.loop-authority-test.false c.loop-authority.invariant

@@ -14,7 +14,8 @@ use Rattle.checker.proofs.allowances.keeps_in_authority.Goals as goal
 pub returns-in-Ceilings : goal.returns-in-Ceilings
 returns-in-Ceilings c =
     let ceilings = c.args.allowance.now.ceilings.now in
-    let all = all_seen (keeps_ceiling c.args.allowance.now.wide c.args.task.now.grants) ceiling_of ceilings _ _ _ c.all.ensures.ran (YieldsList-from_slice ceilings cc) (λ x b q k. search (rules, tests)) in
+    let all = all_seen (keeps_ceiling c.args.allowance.now.wide c.args.task.now.grants) ceiling_of ceilings _ _ _ c.all.ensures.ran (YieldsList-from_slice ceilings cc)
+    (λ x b q k. search (rules, tests)) in
     search (rules, tests)
 
 pub returns-in-Moves : goal.returns-in-Moves

@@ -28,6 +28,7 @@ returns-in-Node c =
     let grants = c.grants.result.now in
     let placed = ap (λ (nodes : List Node). (node nodes c.in-Node.node).place) c.nodes-nodes.ensures.nodes in
     let any : c.any.result ≡ list_any (is_below_ceiling c.args.allowance.now.wide a rights (node c.args.task.now.nodes c.in-Node.node).place) c.args.task.now.grants =
-    any_seen (is_below_ceiling c.args.allowance.now.wide a rights (node (nodes_of c.nodes-nodes.result.now) c.in-Node.node).place) grant_of grants _ _ _ c.any.ensures.ran (YieldsList-from_slice grants cc)
+    any_seen (is_below_ceiling c.args.allowance.now.wide a rights (node (nodes_of c.nodes-nodes.result.now) c.in-Node.node).place)
+    grant_of grants _ _ _ c.any.ensures.ran (YieldsList-from_slice grants cc)
     (λ x b q k. search (rules, tests)) ∙ (λ k. list_any (is_below_ceiling c.args.allowance.now.wide a rights (placed k)) (c.grants.ensures k)) in
     search (rules, tests)

@@ -40,6 +40,7 @@ returns-clause-wrong c =
     let behind = c.behind_label-behind.ensures ∙ ap (λ words. behind_label (map word_of words)) c.deref-2.ensures.value ∙ ap behind_label words in
     let read = parts-seen c.args.wide text _ _ c.behind_label-behind.result.now stray label behind in
     elim c.match-read_line.branch [
-      | in-Ok w ↦ ap (λ seen. list_of (option_map fault_seen seen.1)) w.line-is ∙ sym (ap (own_fault c.args.number) (read-counted c.args.wide text (line_from w.in-Ok.line) (sym read ∙ w.in-Ok.ensures)).1)
+      | in-Ok w ↦ ap (λ seen. list_of (option_map fault_seen seen.1)) w.line-is
+          ∙ sym (ap (own_fault c.args.number) (read-counted c.args.wide text (line_from w.in-Ok.line) (sym read ∙ w.in-Ok.ensures)).1)
       | in-Err-Wrong w ↦ ap (λ seen. list_of (option_map fault_seen seen.1)) w.line-is ∙ w.wrong_in.ensures ∙ rw (stray, label, behind) refl
     ]
