@@ -1,6 +1,7 @@
 pub mod Refused
 pub mod NoAnswerLaws
 pub mod LearntLaws
+pub mod ListedLaws
 pub mod PlannedLaws
 pub mod PlacingLaws
 pub mod Writes

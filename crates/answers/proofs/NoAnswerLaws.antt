@@ -1,24 +1,32 @@
 -- What is no answer, by the files that are told.
-use Rattle.std.proofs.Common.{◌≡◌, ℕ, List, [], ◌∷◌, ◌++◌, Some, refl, inl, inr, subst, sym, ◌∙◌}
-use Rattle.std.specs.Prelude.{◌⊎◌, false, Option, Result, Ok, codes}
-use Rattle.certificate.specs.Bounds.{Certificate}
+use Rattle.std.proofs.Common.{◌≡◌, ◌-◌, ℕ, Bool, true, List, [], ◌∷◌, ◌++◌, Some, ap, refl, inl, inr, lit<, map, subst, sym, ◌∙◌}
+use Rattle.std.specs.Prelude.{◌⊎◌, ◌==◌, ◌&&◌, ◌||◌, false, Option, Result, Ok, codes, length}
+use Rattle.std.specs.List.{list_all, range_with_len, slice_get}
+use Rattle.std.proofs.Math.Bool.{not}
+use Rattle.std.proofs.lemmas.Bool.{and_parts, eqb-true}
+use Rattle.certificate.specs.Bounds.{Certificate, One}
+use Rattle.certificate.specs.Growth.{empty}
 use Rattle.certificate_text.specs.Readings.{certificate_of_text}
 use Rattle.checker.specs.Findings.{BrokenRule, findings}
 use Rattle.checker.specs.Verdicts.{IsAccepted}
 use Rattle.explore.specs.Texts.{schedule_text}
 use Rattle.follow.specs.Shows.{IsShown, Witness, events_of}
-use Rattle.records.specs.Calls.{RecordedCalls}
+use Rattle.records.specs.Calls.{RecordedCalls, are_calls}
+use Rattle.records.specs.LineAccounts.{AreQuiet, ListTheOthers, is_end_of, is_in_lists, is_line_of, is_listed, is_quiet}
 use Rattle.records.specs.Readings.{calls_of_text}
 use Rattle.records.specs.Texts.{calls_text}
+use Rattle.records.proofs.TextBack.{calls-back}
 use Rattle.rules.specs.Expansions.{expansion}
 use Rattle.searcher.specs.Flat.{flat}
-use Rattle.task.specs.Plans.{Plan, program_name}
+use Rattle.task.specs.Plans.{NamedProgram, Plan, program_name}
 use Rattle.task_reader.specs.Reading.{task_of}
-use Rattle.answers.specs.Answered.{Answers, AnswersWords, SaysBroken, SaysFollowed, SaysFound, SaysNoTask, SaysOfSearch, SaysWhether}
-use Rattle.answers.specs.NoAnswers.{LogSaysWhether, NoSaysWhether, NoneSaysWhether, RecordsAreHeard}
+use Rattle.answers.specs.Answered.{Answers, AnswersWords, IsOfOneRun, SaysBroken, SaysCalls, SaysFollowed, SaysFound, SaysNoTask, SaysOfSearch, SaysWhether}
+use Rattle.answers.specs.NoAnswers.{ListingSaysPrograms, LogSaysWhether, NoSaysWhether, NoneSaysWhether, RecordsAreHeard, first_copy, two_copies}
 use Rattle.answers.specs.PlacingWords.{placings_in}
 use Rattle.answers.specs.Questions.{Broken, Question, question_in}
+use Rattle.explain.specs.Listing.{InOrder, Lists, TellsProgram, one_more}
 use Rattle.explain.specs.TaskTexts.{IsTaskText}
+use Rattle.texts.specs.Lines.{Line, lines_of}
 use Rattle.explain.proofs.Covered.{some_told}
 use Rattle.explain.specs.Telling.{HasHead, Tells, point_with_line}
 
@@ -136,6 +144,41 @@ log_says = record {
 begun : (calls : RecordedCalls) → calls_text calls ≡ [] → ⊥
 begun calls is = let clash = is in cc
 
+-- of a list all of whose numbers pass, one that is listed passes: the first, or one behind it
+passes_first : (test : ℕ → Bool) (n m : ℕ) (xs : List ℕ) (same : Bool) → (m == n) ≡ same
+    → (is_listed n xs ≡ true → list_all test xs ≡ true → test n ≡ true) → is_listed n (m ∷ xs) ≡ true → list_all test (m ∷ xs) ≡ true → test n ≡ true
+passes_first test n m xs true is behind listed all = ap test (sym (eqb-true m n is)) ∙ (and_parts (test m) (list_all test xs) all).0
+passes_first test n m xs false is behind listed all =
+    behind (sym (ap (λ b. b || is_listed n xs) is) ∙ listed) (and_parts (test m) (list_all test xs) all).1
+
+passes : (test : ℕ → Bool) (n : ℕ) (xs : List ℕ) → is_listed n xs ≡ true → list_all test xs ≡ true → test n ≡ true
+passes test n [] listed all = absurd cc
+passes test n (m ∷ xs) listed all = passes_first test n m xs (m == n) refl (λ left rest. passes test n xs left rest) listed all
+
+heard : (calls : RecordedCalls) → are_calls calls ≡ true → calls_text (first_copy ∷ []) ≡ calls_text calls → calls ≡ first_copy ∷ []
+heard calls within is =
+    same_ok (calls_of_text (calls_text calls)) (calls-back calls within) (sym (λ k. calls_of_text (is k)) ∙ calls-back (first_copy ∷ []) refl)
+
+understood : (misread : List ℕ) (calls : RecordedCalls) → SaysWhether 0 (IsOfOneRun calls misread) → misread ≡ []
+understood misread calls says = (never_both (IsOfOneRun calls misread) says).understood
+
+second_line : (misread silent : List ℕ) (calls : RecordedCalls) → misread ≡ [] → calls ≡ first_copy ∷ [] → ListTheOthers 2 calls misread silent
+    → is_listed 2 silent ≡ true
+second_line misread silent calls none is lists =
+    sym (ap (λ (lines : List ℕ). is_in_lists 2 lines silent) none) ∙ lists (lit< tt) 2 ∙ ap (λ (c : RecordedCalls). is_line_of 2 2 && not (is_end_of 2 c)) is
+
+not_quiet : (silent : List ℕ) → is_listed 2 silent ≡ true → AreQuiet (lines_of two_copies) silent → ⊥
+not_quiet silent listed quiet =
+    let clash = passes (λ n. is_quiet (slice_get (map (λ (line : Line). line.text) (lines_of two_copies)) (n - 1))) 2 silent listed (quiet (lit< tt)) in
+    cc
+
+no_call_lost : (text : List ℕ) → text ≡ two_copies → SaysCalls text 0 (calls_text (first_copy ∷ [])) → ⊥
+no_call_lost text is says =
+    let said = subst (λ (t : List ℕ). SaysCalls t 0 (calls_text (first_copy ∷ []))) is says in
+    not_quiet said.silent
+    (second_line said.misread said.silent said.calls (understood said.misread said.calls said.says) (heard said.calls said.within said.is_text) said.others)
+    said.quiet
+
 not_shown : (plan said : Plan) (places : List (List ℕ)) (recorded heard : RecordedCalls) (written : List ℕ) → said ≡ plan → heard ≡ recorded
     → ((witness : Witness) → IsShown plan (placings_in places) recorded witness → ⊥) → SaysFollowed said (placings_in places) heard 0 written → ⊥
 not_shown plan said places recorded heard written plan_is calls_are none (inl follows) =
@@ -153,10 +196,42 @@ not_written plan places calls (inr parts) = cc
 pub records_are_heard : RecordsAreHeard
 records_are_heard = record {
   silent = λ files file status answers. begun answers.says.calls (sym answers.says.is_text);
+  unheard = λ files file is_text answers. no_call_lost answers.text (same_some (sym answers.is_file ∙ is_text)) answers.says;
   unshown = λ files task calls text calls_text places plan recorded written is_text is_calls is_task are_calls none answers.
       not_shown plan answers.says.plan places recorded answers.says.calls written
       (same_ok (task_of text) (sym (λ k. task_of (same_some (sym answers.is_file ∙ is_text) k)) ∙ answers.says.is_task) is_task)
       (same_ok (calls_of_text calls_text) (sym (λ k. calls_of_text (same_some (sym answers.is_calls_file ∙ is_calls) k)) ∙ answers.says.are_calls) are_calls)
       none answers.says.says;
   unwritten = λ files task calls places answers. not_written answers.says.plan places answers.says.calls answers.says.says;
+}
+
+-- ## Listings
+first_told : {X : Type 0} (Tells : X → List ℕ → Type 0) (x : X) (xs : List X) (text : List ℕ) → InOrder Tells (x ∷ xs) text
+    → (told : List ℕ) × (behind : List ℕ) × Tells x told × (text ≡ told ++ behind)
+first_told Tells x xs text (one_more _ tells rest) = (_, _, tells, refl)
+
+first_empty : (first second : List ℕ) → first ++ second ≡ [] → first ≡ []
+first_empty [] second is = refl
+first_empty (byte ∷ first) second is = absurd cc
+
+unnamed : (plan : Plan) (c bounds : Certificate) (program : ℕ) (text : List ℕ) → TellsProgram plan c bounds false program text → text ≡ [] → ⊥
+unnamed plan c bounds program text tells is =
+    let clash = second_empty (program_name plan program) (codes "\n" ++ (tells.authority ++ (tells.of_points ++ (tells.remarks ++ tells.warnings))))
+    (sym tells.is_text ∙ is) in
+    cc
+
+unlisted : (plan : Plan) (c bounds : Certificate) (p : NamedProgram) (ps : List NamedProgram) (written : List ℕ) → plan.programs ≡ p ∷ ps → written ≡ []
+    → Lists plan c bounds false written → ⊥
+unlisted plan c bounds p ps written is none lists =
+    let told = first_told (TellsProgram plan c bounds false) 0 (range_with_len 1 (length ps)) lists.programs
+    (subst (λ (programs : List NamedProgram). InOrder (TellsProgram plan c bounds false) (range_with_len 0 (length programs)) lists.programs) is lists.tells_programs) in
+    unnamed plan c bounds 0 told.0 told.2 (first_empty told.0 told.1 (sym told.3 ∙ first_empty lists.programs lists.remarks (sym lists.is_text ∙ none)))
+
+pub listing_says : ListingSaysPrograms
+listing_says = record {
+  silent = λ files task text plan p ps status is_text is_task has_program answers.
+      let listed = answers.1.says in
+      let plan_is : listed.plan ≡ plan = same_ok (task_of text) (sym (λ k. task_of (same_some (sym answers.1.is_file ∙ is_text) k)) ∙ listed.is_task) is_task in
+      unlisted listed.plan (empty One) listed.bounds p ps [] (ap (λ (q : Plan). q.programs) plan_is ∙ has_program) refl listed.lists;
+  failed = λ files task written answers. let clash = answers.0 in cc;
 }

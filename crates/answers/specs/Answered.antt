@@ -13,7 +13,7 @@ use Rattle.rules.specs.Expansions.{expansion}
 use Rattle.searcher.specs.Flat.{flat}
 use Rattle.follow.specs.Places.{Placing}
 use Rattle.follow.specs.Shows.{IsShown, Witness, events_of}
-use Rattle.records.specs.LineAccounts.{ListTheOthers}
+use Rattle.records.specs.LineAccounts.{AreQuiet, ListTheOthers}
 use Rattle.records.specs.Calls.{RecordedCalls, are_calls}
 use Rattle.records.specs.Readings.{calls_of_text}
 use Rattle.records.specs.Runs.{another_run}
@@ -25,6 +25,7 @@ use Rattle.explore.specs.Breaches as explore
 use Rattle.explore.specs.Broken.{Breaks, IsRefuted, Move, own_moves}
 use Rattle.explore.specs.Texts.{WritesRun, schedule_text}
 use Rattle.answers.specs.Learnt.{SaysLearnt}
+use Rattle.answers.specs.Listed.{SaysListed, SaysListedWith}
 use Rattle.answers.specs.PlacingWords.{placings_in}
 use Rattle.answers.specs.Planned.{HearsCalls, SaysPlanned}
 use Rattle.answers.specs.Questions.{Question, Usage, Listing, Broken, Unfound, Breach, Proposed, Page, Log, Faulty, Calls, Followed, Learnt, Planned, NamesLeft, question_in}
@@ -86,6 +87,19 @@ pub record SaysOfChecked (files : Files) (task certificate : List ℕ) (status :
   pub is_bounds : IsFile files certificate bounds_text
   pub says : SaysChecked status text bounds_text
 
+-- a task that is listed, alone or with a certificate
+pub record SaysOfListing (files : Files) (name written : List ℕ) : Type 0 where
+  pub text : List ℕ
+  pub is_file : IsFile files name text
+  pub says : SaysListed text written
+
+pub record SaysOfListingWith (files : Files) (task certificate written : List ℕ) : Type 0 where
+  pub text : List ℕ
+  pub is_file : IsFile files task text
+  pub bounds_text : List ℕ
+  pub is_bounds : IsFile files certificate bounds_text
+  pub says : SaysListedWith text bounds_text written
+
 -- a text that is no task's, with status 1
 pub record SaysNoTask (files : Files) (name : List ℕ) (status : ℕ) : Type 0 where
   pub text : List ℕ
@@ -145,13 +159,15 @@ pub record IsOfOneRun (calls : RecordedCalls) (misread : List ℕ) : Type 0 wher
   pub heard : has_calls calls ≡ true
   pub alone : another_run calls ≡ None
 
--- Of a record's text calls are written that are within the limits, and each line has one of them or is among the others; 0 says that it is of one run.
+-- Of a record's text calls are written that are within the limits, and each line has one of them or is among the others: those that aren't understood, and those
+-- that say nothing of a call, as they may. 0 says that it is of one run.
 pub record SaysCalls (text : List ℕ) (status : ℕ) (written : List ℕ) : Type 0 where
   pub calls : RecordedCalls
   pub within : are_calls calls ≡ true
   pub misread : List ℕ
   pub silent : List ℕ
   pub others : ListTheOthers (length (lines_of text)) calls misread silent
+  pub quiet : AreQuiet (lines_of text) silent
   pub is_text : written ≡ calls_text calls
   pub says : SaysWhether status (IsOfOneRun calls misread)
 
@@ -193,10 +209,11 @@ pub record SaysOfFollowing (files : Files) (task calls : List ℕ) (places : Lis
   pub is_calls_file : IsFile files calls calls_text
   pub says : SaysWhetherFollowed text calls_text places status written
 
--- What is written counts of broken rules, of proposals, of runs, of calls, of what is learnt and of plans.
+-- What is written counts of listings, of broken rules, of proposals, of runs, of calls, of what is learnt and of plans.
 abbrev pub Answers : Files → Question → ℕ → List ℕ → Type 0
 Answers files Usage status written = status ≡ 0
-Answers files (Listing task certificate) status written = status ≡ 0
+Answers files (Listing task None) status written = (status ≡ 0) × SaysOfListing files task written
+Answers files (Listing task (Some certificate)) status written = (status ≡ 0) × SaysOfListingWith files task certificate written
 Answers files (Broken task certificate) status written = SaysOfFiles files task certificate status written
 Answers files (Unfound task) status written = SaysOfSearch files task status
 Answers files (Breach task states) status written = SaysOfRuns files task status written

@@ -2,6 +2,7 @@ pub mod PlacingWords
 pub mod PlacingViews
 pub mod ClaimViews
 pub mod Learnt
+pub mod Listed
 pub mod Planned
 pub mod Questions
 pub mod QuestionViews

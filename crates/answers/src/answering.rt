@@ -1,14 +1,18 @@
 //! What is answered to a question, and how.
 
-ghost use Rattle.std.specs.Prelude.{◌≡◌, ◌<◌, ◌-◌, ◌^◌, [], IfOk, IfSome, IsTrue, Ok, Some, map, option_map, string_bytes, true};
+ghost use Rattle.std.specs.Prelude.{◌≡◌, ◌<◌, ◌-◌, ◌^◌, [], IfOk, IfSome, IsTrue, Ok, OnOk, Some, false, map, option_map, string_bytes, true};
+ghost use Rattle.certificate.specs.Bounds.{Certificate};
 ghost use Rattle.certificate_text.specs.Texts.{certificate_text};
 ghost use Rattle.checker.specs.Verdicts.{IsAccepted};
 ghost use Rattle.console.specs.Statuses.{is_done_status, is_status};
 ghost use Rattle.task.specs.Plans.{Plan};
 ghost use Rattle.task_reader.specs.Reading.{task_of};
+ghost use Rattle.explain.specs.Listing.{Lists};
+ghost use Rattle.explain.specs.ListingViews.{AddsSome};
 ghost use Rattle.explain.specs.TaskTexts.{IsTaskText};
 ghost use Rattle.answers.specs.Answered.{Answers, AnswersWords, SaysBroken, SaysFound, SaysOffered, SaysWhether};
 ghost use Rattle.answers.specs.Answered.{SaysOfFile, SaysOfFiles, SaysOfFollowing, SaysOfRecord, SaysOfRuns, SaysOfSearch, SaysOfTask};
+ghost use Rattle.answers.specs.Listed.{SaysListed, SaysListedWith};
 ghost use Rattle.answers.specs.QuestionViews.{question_of};
 ghost use Rattle.answers.specs.Questions as asked;
 ghost use Rattle.rights.specs.Output.{Took};
@@ -50,7 +54,9 @@ fn answer_usage<'a>(alloc: Global) -> Result<Answer, Refusal<'a>>
 }
 
 /// Adds the listing of a task without bounds, with warnings by those that the search reaches.
-fn add_unbounded(alloc: Global, page: &mut Page, scene: &Scene<'_>) -> Result<(), Memory> {
+fn add_unbounded(alloc: Global, page: &mut Page, scene: &Scene<'_>) -> Result<(), Memory>
+    ensures { OnOk result ((bounds : Certificate) × AddsSome (Lists scene.now.task.now scene.now.cert.now bounds false) page.old page.new) }
+{
     match reached(alloc, scene.task)? {
         None => add_listing(page, scene, scene.cert, false),
         Some(reached) => {
@@ -62,8 +68,10 @@ fn add_unbounded(alloc: Global, page: &mut Page, scene: &Scene<'_>) -> Result<()
 }
 
 /// The listing of a task, without bounds; what is warned of goes by those that the search reaches.
+#[tactic(auto, using(crate::proofs::ListedLaws::listed_alone))]
 fn listing_alone<'a>(alloc: Global, file: &[u8]) -> Result<Answer, Refusal<'a>>
-    ensures { IfOk result (λ answer. answer.status ≡ 0) }
+    ensures status { IfOk result (λ answer. answer.status ≡ 0) }
+    ensures says { IfOk result (λ answer. SaysListed file.now answer.text.items) }
 {
     let task = read_task(alloc, file)?;
     let texts = texts_of_file(alloc, file, &task)?;
@@ -75,8 +83,10 @@ fn listing_alone<'a>(alloc: Global, file: &[u8]) -> Result<Answer, Refusal<'a>>
 }
 
 /// The listing of a task with the bounds of a certificate.
+#[tactic(auto, using(crate::proofs::ListedLaws::listed_with))]
 fn listing_with<'a>(alloc: Global, file: &[u8], cert: &[u8]) -> Result<Answer, Refusal<'a>>
-    ensures { IfOk result (λ answer. answer.status ≡ 0) }
+    ensures status { IfOk result (λ answer. answer.status ≡ 0) }
+    ensures says { IfOk result (λ answer. SaysListedWith file.now cert.now answer.text.items) }
 {
     let claim = read_texts(alloc, file, cert)?;
     let texts = texts_of_file(alloc, file, &claim.task)?;
@@ -180,7 +190,8 @@ fn answer_listing<'a, S: Source>(
     task: &'a str,
     cert: Option<&'a str>,
 ) -> Result<Answer, Refusal<'a>>
-    ensures { IfOk result (λ answer. answer.status ≡ 0) }
+    ensures { IfOk result (λ answer. Answers (S.files files.old) (asked.Listing task.now (option_map (λ name. name.now) cert.entry))
+        answer.status answer.text.items) }
 {
     let task_text = files.fetch(task)?;
     match cert {

@@ -1,5 +1,5 @@
 -- What the program has written when it says that it is done.
-use Rattle.std.specs.Prelude.{◌≡◌, ℕ, true, List, Option}
+use Rattle.std.specs.Prelude.{◌≡◌, ◌⊎◌, ℕ, true, List, Option}
 use Rattle.command_line.specs.Orders.{Order, Example, Run, Check, Report, Search, Expand, AsksFor}
 use Rattle.task.specs.Confined.{IsConfined}
 use Rattle.task.specs.Plans.{Plan, none_marked}
@@ -33,6 +33,10 @@ pub record Serves (files : Files) (words : List (List ℕ)) (status : ℕ) (befo
   pub order : Order
   pub asked : AsksFor words order
   pub done : DoesOrder files order status before after
+
+-- The words ask for a verdict on these files, or for a report that is written where the verdict is yes.
+abbrev pub AsksForVerdict : List (List ℕ) → List ℕ → List ℕ → Type 0
+AsksForVerdict words task certificate = AsksFor words (Check task certificate) ⊎ AsksFor words (Report task certificate)
 
 -- The text of the file is a task's, every run of which is confined, and sandboxed if no program of it is marked.
 pub record StaysInside (files : Files) (task : List ℕ) : Type 0 where

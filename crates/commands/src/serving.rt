@@ -3,10 +3,10 @@
 ghost use Rattle.std.specs.Prelude.{◌≡◌, ◌<◌, ◌⊎◌, ◌-◌, ◌^◌, ℕ, IfErr, IfOk, IsTrue, List, None, map, string_bytes};
 ghost use Rattle.commands.specs.Begun.{HasBegun};
 ghost use Rattle.commands.specs.Fails.{Fails, RefusesWords, WordsFail};
-ghost use Rattle.commands.specs.Served.{DoesOrder, Serves, StaysInside};
+ghost use Rattle.commands.specs.Served.{AsksForVerdict, DoesOrder, Serves, StaysInside};
 ghost use Rattle.console.specs.FaultViews.{fault_of};
 ghost use Rattle.console.specs.Statuses.{is_done_status, is_fault_status, is_status};
-ghost use Rattle.command_line.specs.Orders.{AsksFor, Check, Example, Expand, Report, Run, Search};
+ghost use Rattle.command_line.specs.Orders.{Check, Example, Expand, Report, Run, Search};
 ghost use Rattle.command_line.specs.OrderViews.{order_of};
 
 use crate::example::example_task;
@@ -196,7 +196,7 @@ fn serve_words<'a, S: Source, W: Out>(
 /// and for want of memory nothing, or of a trace a beginning. Want of memory may be told in place of any fault. `err` takes the
 /// line of a fault and nothing else, and its failures change neither the status nor the output.
 ///
-/// Where `check` ends with 0, the task of its file is confined, and sandboxed if no program of it is untrusted.
+/// Where `check` or `report` ends with 0, the task of its file is confined, and sandboxed if no program of it is untrusted.
 pub fn serve<S: Source, W: Out, V: Out>(
     alloc: Global,
     words: &[String],
@@ -214,7 +214,7 @@ pub fn serve<S: Source, W: Out, V: Out>(
     ensures stopped { result ≡ 3 → (W.taken out.new ≡ W.taken out.old)
         ⊎ HasBegun (Serves (S.files files.old) (map string_bytes words.now)) (W.taken out.old) (W.taken out.new) }
     ensures known { IsTrue (is_status result) }
-    ensures inside { result ≡ 0 → (task certificate : List ℕ) → AsksFor (map string_bytes words.now) (Check task certificate)
+    ensures inside { result ≡ 0 → (task certificate : List ℕ) → AsksForVerdict (map string_bytes words.now) task certificate
         → StaysInside (S.files files.old) task }
 {
     match serve_words(alloc, words, files, out) {

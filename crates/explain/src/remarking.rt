@@ -22,11 +22,11 @@ use remarks::{
     Remark, Remarked, TaskRemark, beyond_at_all, bounds_on, points_beyond, remarks_on,
     remarks_on_task,
 };
+use rights::Op;
 use rights::limits::MAX_DESCRIPTORS;
-use rights::{Op, Rights};
 use std::alloc::{AllocError, Global};
 use task::{Grant, NamedProgram, Task};
-use texts::{Page, say};
+use texts::{Page, ToldRights, say};
 
 /// What a remark is about.
 fn topic_of(remark: &Remark) -> Topic
@@ -46,8 +46,8 @@ fn topic_of(remark: &Remark) -> Topic
     }
 }
 
-/// Adds what is remarked.
-fn add_text(page: &mut Page, name: &[u8], remark: &Remark) {
+/// Adds what is remarked on a program of this name.
+fn add_text(page: &mut Page, wide: bool, name: &[u8], remark: &Remark) {
     match remark {
         Remark::NeverEnters => {
             say!(page; name, " never enters the mode, and a yes does not bound what it does to the tree")
@@ -66,7 +66,11 @@ fn add_text(page: &mut Page, name: &[u8], remark: &Remark) {
             say!(page; "descriptor ", *number, " is held in the mode and never named from there on, so it can be closed")
         }
         Remark::Rights { number, most } => {
-            say!(page; "descriptor ", *number, " could be limited to ", *most, ", since no call from there on can use its other rights, in the mode")
+            let told = ToldRights {
+                wide,
+                rights: *most,
+            };
+            say!(page; "descriptor ", *number, " could be limited to ", told, ", since no call from there on can use its other rights, in the mode")
         }
         Remark::Commands { number, most } => {
             say!(page; "descriptor ", *number, " could be limited to the commands ", *most, ", since no call from there on can use its others, in the mode")
@@ -102,11 +106,16 @@ fn add_more(page: &mut Page, remark: &Remark) {
 }
 
 /// A remark in words.
-fn told(alloc: Global, name: &[u8], remarked: &Remarked) -> Result<Observation, AllocError>
+fn told(
+    alloc: Global,
+    wide: bool,
+    name: &[u8],
+    remarked: &Remarked,
+) -> Result<Observation, AllocError>
     ensures { IfOk result (λ told. headed told ≡ headed_remark (remarked_of remarked.now)) }
 {
     let (mut words, mut more) = (Page::new(alloc), Page::new(alloc));
-    add_text(&mut words, name, &remarked.remark);
+    add_text(&mut words, wide, name, &remarked.remark);
     add_more(&mut more, &remarked.remark);
     Ok(Observation {
         topic: topic_of(&remarked.remark),
@@ -120,6 +129,7 @@ fn told(alloc: Global, name: &[u8], remarked: &Remarked) -> Result<Observation, 
 fn add_told(
     alloc: Global,
     list: &mut Vec<Observation>,
+    wide: bool,
     name: &[u8],
     remarks: &[Remarked],
 ) -> Result<(), AllocError>
@@ -128,14 +138,14 @@ fn add_told(
     match remarks {
         [] => Ok(()),
         [first, rest @ ..] => {
-            list.push(told(alloc, name, first)?)?;
-            add_told(alloc, list, name, rest)
+            list.push(told(alloc, wide, name, first)?)?;
+            add_told(alloc, list, wide, name, rest)
         }
     }
 }
 
 /// Which rights a number has beyond the policy, in words.
-fn beyond_words(alloc: Global, number: u32, rights: Rights) -> Page {
+fn beyond_words(alloc: Global, number: u32, rights: ToldRights) -> Page {
     let mut words = Page::new(alloc);
     say!(&mut words; "descriptor ", number, " has rights beyond what its grant lists, ", rights, ", in the mode");
     words
@@ -146,7 +156,7 @@ fn add_rights(
     alloc: Global,
     list: &mut Vec<Observation>,
     number: u32,
-    rights: Rights,
+    rights: ToldRights,
     points: Vec<usize>,
 ) -> Result<(), AllocError>
     ensures { OnOk result (AddsObserved list.old.items list.new.items (headed_where_any (codes "beyond-the-policy") points.items)) }
@@ -174,7 +184,7 @@ fn add_beyond(
 {
     let points = points_beyond(alloc, wide, grants, code, bounds, number)?;
     let rights = beyond_at_all(wide, grants, code, bounds, number, &points);
-    add_rights(alloc, list, number, rights, points)
+    add_rights(alloc, list, number, ToldRights { wide, rights }, points)
 }
 
 /// Adds that of all numbers.
@@ -248,7 +258,8 @@ pub fn program_remarks(
 {
     let mut list = Vec::new(alloc);
     let remarks = remarks_on(alloc, scene.task, scene.cert, program, has_cert)?;
-    add_told(alloc, &mut list, name_of(scene.task, program), &remarks)?;
+    let (wide, name) = (scene.task.further_rights(), name_of(scene.task, program));
+    add_told(alloc, &mut list, wide, name, &remarks)?;
     add_beyond_on(alloc, &mut list, scene, program, has_cert)?;
     Ok(list)
 }

@@ -13,6 +13,7 @@ pub mod FaultViews
 pub mod CallsViews
 pub mod CountViews
 pub mod LineAccounts
+pub mod LineViews
 pub mod GivenViews
 pub mod Beginnings
 pub mod Runs

@@ -1,8 +1,9 @@
 //! Which lines of a record its entries account for.
 
-ghost use Rattle.std.specs.Prelude.{◌≡◌, ◌+◌, ◌<◌, ◌^◌, ◌&&◌, ◌||◌, ◌==◌, ℕ, IfOk, OnOk, false, length, nat_lt, slice_index_or};
+ghost use Rattle.std.specs.Prelude.{◌≡◌, ◌+◌, ◌<◌, ◌^◌, ◌&&◌, ◌||◌, ◌==◌, ◌++◌, ◌∷◌, [], ℕ, IfOk, OnOk, false, length, nat_lt, slice_index_or, true};
 ghost use Rattle.std.proofs.Math.Bool.{not};
-ghost use Rattle.records.specs.LineAccounts.{is_end_of, is_in_lists, is_line_of};
+ghost use Rattle.records.specs.LineAccounts.{are_quiet, is_end_of, is_in_lists, is_line_of};
+ghost use Rattle.records.specs.LineViews.{texts_told};
 ghost use Rattle.records.specs.EntryViews.{calls_seen};
 
 use crate::entries::Entry;
@@ -72,8 +73,10 @@ fn is_marked(marks: &[bool], line: u32) -> bool
 impl LineAccounts {
     /// Lists a line of this number.
     fn list(&mut self, number: u32, is_silent: bool) -> Result<(), AllocError>
-        ensures { OnOk result ((line : ℕ) → is_in_lists line self.new.misread.items self.new.silent.items
+        ensures lists { OnOk result ((line : ℕ) → is_in_lists line self.new.misread.items self.new.silent.items
             ≡ (is_in_lists line self.old.misread.items self.old.silent.items || (number == line))) }
+        ensures silent { OnOk result ((is_silent ≡ false → self.new.silent.items ≡ self.old.silent.items)
+            × (is_silent ≡ true → self.new.silent.items ≡ self.old.silent.items ++ number ∷ [])) }
     {
         if is_silent {
             self.silent.push(number)?;
@@ -91,8 +94,9 @@ pub(crate) fn accounts_of(
     lines: &[StraceLine<'_>],
     marks: &[bool],
 ) -> Result<LineAccounts, AllocError>
-    ensures { length lines.now < 2 ^ 32 → IfOk result (λ accounts. (line : ℕ) → is_in_lists line accounts.misread.items accounts.silent.items
+    ensures lists { length lines.now < 2 ^ 32 → IfOk result (λ accounts. (line : ℕ) → is_in_lists line accounts.misread.items accounts.silent.items
         ≡ (is_line_of (length lines.now) line && not (slice_index_or marks.now line false))) }
+    ensures quiet { length lines.now < 2 ^ 32 → IfOk result (λ accounts. are_quiet (texts_told lines.now) accounts.silent.items ≡ true) }
 {
     let mut accounts = LineAccounts {
         misread: Vec::new(alloc),
@@ -101,7 +105,7 @@ pub(crate) fn accounts_of(
     for (index, line) in lines.iter().enumerate() {
         let number = line_number(index);
         if !is_marked(marks, number) {
-            accounts.list(number, line.told.is_silent())?;
+            accounts.list(number, line.is_silent())?;
         }
     }
     Ok(accounts)

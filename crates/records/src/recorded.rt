@@ -2,7 +2,7 @@
 
 ghost use Rattle.std.specs.Prelude.{◌≡◌, IfOk, length, true};
 ghost use Rattle.texts.specs.Lines.{lines_of};
-ghost use Rattle.records.specs.LineAccounts.{ListTheOthers};
+ghost use Rattle.records.specs.LineAccounts.{AreQuiet, ListTheOthers};
 ghost use Rattle.records.specs.Calls.{are_calls};
 ghost use Rattle.records.specs.EntryViews.{calls_seen};
 
@@ -35,11 +35,12 @@ fn entries_of(alloc: Global, lines: &[StraceLine<'_>]) -> Result<Vec<Entry>, All
 }
 
 /// What a record that `strace -f` or `truss -f` has written is as calls: an entry for each, in the order in which they end. The entries are within the
-/// limits of recorded calls, and no line is passed over: the lists have just the lines in which no call of an entry begins or ends. Only
-/// want of memory may come instead. A line past 4294967295 is told by that number.
+/// limits of recorded calls, and no line is passed over: the lists have just the lines in which no call of an entry begins or ends. A line
+/// is silent only where no bracket stands in it, or a mark of lines that say nothing of a call. Only want of memory may come instead. A line past 4294967295 is told by that number.
 pub fn recorded_calls(alloc: Global, text: &[u8]) -> Result<Recorded, AllocError>
     ensures within { IfOk result (λ recorded. are_calls (calls_seen recorded.entries.items) ≡ true) }
     ensures others { IfOk result (λ recorded. ListTheOthers (length (lines_of text.now)) (calls_seen recorded.entries.items) recorded.misread.items recorded.silent.items) }
+    ensures quiet { IfOk result (λ recorded. AreQuiet (lines_of text.now) recorded.silent.items) }
 {
     let lines = read_strace(alloc, text)?;
     let entries = entries_of(alloc, &lines)?;

@@ -1,6 +1,9 @@
 //! The lines that `strace -f` writes: what each of them tells. Those of `truss -f` are told apart by their beginning.
 
-ghost use Rattle.std.specs.Prelude.{◌≡◌, IfOk, length};
+ghost use Rattle.std.specs.Prelude.{◌≡◌, IfOk, length, map, true};
+ghost use Rattle.std.specs.List.{list_any};
+ghost use Rattle.records.specs.LineAccounts.{has_bracket, is_of_stack, may_be_quiet, quiet_marks, stands_in};
+ghost use Rattle.records.specs.LineViews.{texts_told};
 ghost use Rattle.texts.specs.Lines.{lines_of};
 
 use crate::argument_parts::first_at_top;
@@ -28,6 +31,8 @@ pub(crate) enum System {
 /// A line of a record.
 #[derive(Clone, Copy)]
 pub(crate) struct StraceLine<'t> {
+    /// Its bytes, without the line feed.
+    pub text: &'t [u8],
     pub system: System,
     /// The process that it tells, if it tells one.
     pub process: Option<u32>,
@@ -66,8 +71,80 @@ pub(crate) enum Told<'t> {
 
 impl<'t> Told<'t> {
     /// Whether it is understood, and says nothing of a call.
-    pub(crate) fn is_silent(self) -> bool {
+    fn is_silent(self) -> bool {
         matches!(self, Told::Nothing | Told::Ended | Told::Superseded(_))
+    }
+}
+
+/// Whether a mark stands somewhere in a line.
+fn stands_in(line: &[u8], mark: &[u8]) -> bool
+    ensures { result ≡ stands_in line.now mark.now }
+{
+    let mut rest = line;
+    while let [_, more @ ..] = rest {
+        if rest.starts_with(mark) {
+            return true;
+        }
+        rest = more;
+    }
+    rest.starts_with(mark)
+}
+
+/// What stands in a line of a signal, of the end of a process, of a call that is cut off, and in a remark. (strace(1), truss(1))
+const QUIET_MARKS: [&[u8]; 7] = [
+    b"--- ",
+    b"+++ ",
+    b"<unfinished ...>",
+    b"strace: ",
+    b"SIGNAL ",
+    b"process exit",
+    b"process killed",
+];
+
+/// Whether one of these marks stands in a line.
+fn has_mark(line: &[u8], marks: &[&[u8]]) -> bool
+    ensures { result ≡ list_any (stands_in line.now) (map (λ mark. mark.now) marks.now) }
+{
+    match marks {
+        [] => false,
+        [mark, rest @ ..] => stands_in(line, mark) || has_mark(line, rest),
+    }
+}
+
+/// Whether a bracket opens in a line, as behind the name of a call.
+fn has_bracket(line: &[u8]) -> bool
+    ensures { result ≡ has_bracket line.now }
+{
+    line.contains(&b'(')
+}
+
+/// Whether a line is of a stack: it begins with an arrow.
+fn is_of_stack(line: &[u8]) -> bool
+    ensures { result ≡ is_of_stack line.now }
+{
+    line.starts_with(b" > ")
+}
+
+/// Whether a mark of lines that say nothing of a call stands in a line.
+fn has_quiet_mark(line: &[u8]) -> bool
+    ensures { result ≡ list_any (stands_in line.now) quiet_marks }
+{
+    has_mark(line, &QUIET_MARKS)
+}
+
+/// Whether a line may say nothing of a call, by its bytes alone.
+fn may_be_quiet(line: &[u8]) -> bool
+    ensures { result ≡ may_be_quiet line.now }
+{
+    !has_bracket(line) || is_of_stack(line) || has_quiet_mark(line)
+}
+
+impl<'t> StraceLine<'t> {
+    /// Whether it is understood, and says nothing of a call.
+    pub(crate) fn is_silent(self) -> bool
+        ensures { result ≡ true → may_be_quiet self.entry.text.now ≡ true }
+    {
+        self.told.is_silent() && may_be_quiet(self.text)
     }
 }
 
@@ -200,9 +277,12 @@ fn told_by(text: &[u8]) -> Told<'_> {
 }
 
 /// What a line tells. One of a stack begins with an arrow.
-fn read_line(line: &[u8]) -> StraceLine<'_> {
-    if line.starts_with(b" > ") {
+fn read_line(line: &[u8]) -> StraceLine<'_>
+    ensures { result.text.now ≡ line.entry.now }
+{
+    if is_of_stack(line) {
         return StraceLine {
+            text: line,
             system: System::Linux,
             process: None,
             told: Told::Nothing,
@@ -213,6 +293,7 @@ fn read_line(line: &[u8]) -> StraceLine<'_> {
     }
     let (process, rest) = header_of(line);
     StraceLine {
+        text: line,
         system: System::Linux,
         process,
         told: told_by(without_spaces(rest)),
@@ -225,7 +306,8 @@ pub(crate) fn read_strace<'t>(
     alloc: Global,
     text: &'t [u8],
 ) -> Result<Vec<StraceLine<'t>>, AllocError>
-    ensures { IfOk result (λ lines. length lines.items ≡ length (lines_of text.entry.now)) }
+    ensures length { IfOk result (λ lines. length lines.items ≡ length (lines_of text.entry.now)) }
+    ensures texts { IfOk result (λ lines. texts_told lines.items ≡ map (λ line. line.text) (lines_of text.entry.now)) }
 {
     let mut told = Vec::new(alloc);
     for line in Lines::new(text) {

@@ -1,6 +1,8 @@
 //! The lines that FreeBSD's `truss -f` writes: what each of them tells. (own: the forms are written down from memory of truss(1) and of its
 //! sources; no record of a FreeBSD was tried)
 
+ghost use Rattle.std.specs.Prelude.{◌≡◌, IfSome};
+
 use crate::argument_parts::first_at_top;
 use crate::names::error_of_number;
 use crate::strace::{StraceLine, System, Told, call_of};
@@ -81,7 +83,9 @@ fn told_by(text: &[u8]) -> Told<'_> {
 }
 
 /// What a line tells, if it begins as those of truss do: with blanks, the process and a colon.
-pub(crate) fn read_truss_line(line: &[u8]) -> Option<StraceLine<'_>> {
+pub(crate) fn read_truss_line(line: &[u8]) -> Option<StraceLine<'_>>
+    ensures { IfSome result (λ told. told.text.now ≡ line.entry.now) }
+{
     let (word, Some(behind)) = first_part(without_blanks(line), b':') else {
         return None;
     };
@@ -90,6 +94,7 @@ pub(crate) fn read_truss_line(line: &[u8]) -> Option<StraceLine<'_>> {
     };
     let text = behind_seconds(behind_seconds(without_blanks(text)));
     Some(StraceLine {
+        text: line,
         system: System::FreeBsd,
         process: Some(process),
         told: told_by(text),

@@ -3,7 +3,7 @@ use Rattle.std.specs.Prelude.{string_bytes}
 use Rattle.console.specs.FaultViews.{fault_of}
 use Rattle.commands.specs.Served.{Serves}
 use Rattle.commands.proofs.Begun.{words-begun}
-use Rattle.commands.proofs.Verdicts.{checked-inside}
+use Rattle.commands.proofs.Verdicts.{served-inside}
 use Rattle.commands.proofs.serving.serve.Goals as goal
 
 pub returns-in-Err-clause-stopped : goal.returns-in-Err-clause-stopped
@@ -17,4 +17,4 @@ returns-in-Ok-clause-inside g c = λ zero task certificate asks.
     let words = map string_bytes c.args.words.now in
     let before = g.W.Out.taken c.args.out.now in
     let after = g.W.Out.taken c.serve_words.new.out in
-    checked-inside files words before after task certificate (subst (λ (status : ℕ). Serves files words status before after) zero c.in-Ok.ensures.done) asks
+    served-inside files words before after task certificate (subst (λ (status : ℕ). Serves files words status before after) zero c.in-Ok.ensures.done) asks
