@@ -1,5 +1,5 @@
 -- What is said of a plan, by what its parts say.
-use Rattle.std.proofs.Common.{◌≡◌, ◌≤◌, ℕ, zero, suc, Bool, true, false, List, [], ◌∷◌, ◌++◌, refl, subst, sym, ◌∙◌, inl, inr, eqb-true, arith}
+use Rattle.std.proofs.Common.{◌≡◌, ◌≤◌, ℕ, Bool, true, false, List, [], ◌∷◌, ◌++◌, refl, subst, sym, ◌∙◌, inl, inr, eqb-true, arith}
 use Rattle.std.specs.Prelude.{◌⊎◌, ◌&&◌, ◌==◌, Ok, Option, Some}
 use Rattle.certificate.specs.Bounds.{Certificate}
 use Rattle.checker.specs.Verdicts.{IsAccepted}

@@ -1,8 +1,12 @@
 -- What is written, by what stands on its page.
-use Rattle.std.proofs.Common.{◌≡◌, ℕ, List, [], ◌++◌, map, refl, inl, inr, ap, ◌∙◌}
+use Rattle.std.proofs.Common.{◌≡◌, ℕ, List, [], ◌++◌, map, refl, inl, inr, ap, sym, ◌∙◌}
 use Rattle.std.specs.Prelude.{codes, Some}
+use Rattle.std.proofs.lemmas.Simd.{map-map}
 use Rattle.explore.specs.BreachViews.{breach_of}
+use Rattle.explore.specs.Broken.{Move}
+use Rattle.explore.specs.DeedTexts.{attack_run_text}
 use Rattle.explore.specs.FoundViews.{IsAttacked, IsFound}
+use Rattle.explore.specs.MoveViews.{event_at, move_of}
 use Rattle.explore.specs.Texts.{WritesDetailed, schedule_text}
 use Rattle.explore.specs.declared.exploring.FoundAttack.{FoundAttack}
 use Rattle.explore.specs.declared.exploring.FoundRun.{FoundRun}
@@ -33,5 +37,21 @@ pub run_refutes : (plan : Plan) (found : FoundRun) (text : List ℕ) → IsFound
     → WritesDetailed plan (map event_of found.events.items) (breach_of found.breach) found.detail.items (Some []) (Some text) → SaysRefuted plan 1 text
 run_refutes plan found text is writes = inr (refl, inl (record { events = _; breach = _; breaks = is.breaks; refuted = is.refuted; is_text = (found.detail.items, writes) }))
 
-pub attack_refutes : (plan : Plan) (found : FoundAttack) (text : List ℕ) → IsAttacked plan found → SaysRefuted plan 1 text
-attack_refutes plan found text is = inr (refl, inr (record { moves = _; breach = _; breaks = is.breaks; refuted = is.refuted }))
+pub attack_refutes : (plan : Plan) (found : FoundAttack) (text : List ℕ) → IsAttacked plan found
+    → (trace : List ℕ) × (text ≡ attack_run_text (map event_at found.moves.items) trace (breach_of found.breach) found.detail.items) → SaysRefuted plan 1 text
+attack_refutes plan found text is written =
+    inr (
+      refl,
+      inr (record {
+        moves = map move_of found.moves.items;
+        breach = breach_of found.breach;
+        breaks = is.breaks;
+        refuted = is.refuted;
+        trace = written.0;
+        detail = found.detail.items;
+        is_text =
+            written.1
+            ∙ ap (λ (events : List Event). attack_run_text events written.0 (breach_of found.breach) found.detail.items)
+            (sym (map-map (λ (move : Move). move.0) move_of found.moves.items));
+      }),
+    )

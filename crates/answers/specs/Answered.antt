@@ -22,7 +22,8 @@ use Rattle.task.specs.Plans.{Plan}
 use Rattle.task_reader.specs.Reading.{task_of}
 use Rattle.texts.specs.Lines.{lines_of}
 use Rattle.explore.specs.Breaches as explore
-use Rattle.explore.specs.Broken.{Breaks, IsRefuted, Move, own_moves}
+use Rattle.explore.specs.Broken.{Breaks, IsRefuted, Move, events_in, own_moves}
+use Rattle.explore.specs.DeedTexts.{attack_run_text}
 use Rattle.explore.specs.Texts.{WritesRun, schedule_text}
 use Rattle.answers.specs.Learnt.{SaysLearnt}
 use Rattle.answers.specs.Listed.{SaysListed, SaysListedWith}
@@ -116,8 +117,8 @@ pub record Offers (plan : Plan) (written : List ℕ) : Type 0 where
 abbrev pub SaysOffered : Plan → ℕ → List ℕ → Type 0
 SaysOffered plan status written = ((status ≡ 0) × Offers plan written) ⊎ ((status ≡ 1) × (written ≡ codes "none\n"))
 
--- A run is written whose last step breaks something, with status 1, and the task is neither sandboxed nor confined; or there is one in which
--- attackers do what they like, with status 1 too, and the task isn't confined; 0 claims nothing.
+-- A run is written whose last step breaks something, with status 1, and the task is neither sandboxed nor confined; or one in which
+-- attackers do what they like, with status 1 too, and the task isn't confined: its events, some trace, and what it breaks. 0 claims nothing.
 pub record Refutes (plan : Plan) (written : List ℕ) : Type 0 where
   pub events : List Event
   pub breach : explore.Breach
@@ -125,14 +126,17 @@ pub record Refutes (plan : Plan) (written : List ℕ) : Type 0 where
   pub refuted : IsRefuted plan (own_moves events)
   pub is_text : WritesRun plan events breach (Some []) (Some written)
 
-pub record Attacks (plan : Plan) : Type 0 where
+pub record Attacks (plan : Plan) (written : List ℕ) : Type 0 where
   pub moves : List Move
   pub breach : explore.Breach
   pub breaks : Breaks plan moves (Some breach)
   pub refuted : IsRefuted plan moves
+  pub trace : List ℕ
+  pub detail : List ℕ
+  pub is_text : written ≡ attack_run_text (events_in moves) trace breach detail
 
 abbrev pub SaysRefuted : Plan → ℕ → List ℕ → Type 0
-SaysRefuted plan status written = (status ≡ 0) ⊎ ((status ≡ 1) × (Refutes plan written ⊎ Attacks plan))
+SaysRefuted plan status written = (status ≡ 0) ⊎ ((status ≡ 1) × (Refutes plan written ⊎ Attacks plan written))
 
 pub record SaysOfRuns (files : Files) (name : List ℕ) (status : ℕ) (written : List ℕ) : Type 0 where
   pub text : List ℕ

@@ -10,7 +10,7 @@ ghost use Rattle.task_reader.specs.Reading.{task_of};
 ghost use Rattle.answers.specs.Answered.{SaysRefuted};
 
 use crate::answers::{Answer, Gathered};
-use crate::attacking::attack_text;
+use crate::attacking::attack_run_text;
 use crate::refusals::Refusal;
 use checker::{BrokenRule, all_findings};
 use console::statuses::BROKEN;
@@ -73,12 +73,7 @@ fn unbroken(alloc: Global, states: usize, how_far: &str) -> Result<Answer, Memor
 
 /// The answer to what a search came to.
 #[tactic(auto, using(crate::proofs::Writes::run_refutes, crate::proofs::Writes::attack_refutes))]
-fn explored_answer(
-    alloc: Global,
-    file: &[u8],
-    task: &Task,
-    explored: &Explored<'_>,
-) -> Result<Answer, Memory>
+fn explored_answer(alloc: Global, task: &Task, explored: &Explored<'_>) -> Result<Answer, Memory>
     requires { IsExplored task.now explored.now }
     ensures { IfOk result (λ answer. SaysRefuted task.now answer.status answer.text.items) }
 {
@@ -88,7 +83,7 @@ fn explored_answer(
             Ok(Answer::new(alloc, text, BROKEN))
         }
         Explored::Attacked(found) => {
-            let text = attack_text(alloc, file, task, found)?;
+            let text = attack_run_text(alloc, task, found)?;
             Ok(Answer::new(alloc, text, BROKEN))
         }
         Explored::Ended(states) => {
@@ -116,5 +111,5 @@ pub(crate) fn answer_breach<'a, P: Watcher>(
     let goals = goals_of(alloc, &task)?;
     let deeds = AttackActions::new(alloc, &task)?;
     let explored = explore(alloc, &task, &deeds, &goals, bound, watcher)?;
-    Ok(explored_answer(alloc, file, &task, &explored)?)
+    Ok(explored_answer(alloc, &task, &explored)?)
 }

@@ -22,5 +22,5 @@ capwhy learn CALLS [CALLS ..]
 capwhy plan LINE CALLS [CALLS ..]
                              the same with the mode behind a line of the first file, and whether check says yes
 capwhy plan CALLS            behind which lines fewer names are left that the mode refuses
-capwhy --help                this text, of version 1.21
+capwhy --help                this text, of version 1.22
 ";

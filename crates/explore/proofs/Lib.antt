@@ -3,9 +3,8 @@ pub mod Shown
 pub mod Refuting
 pub mod MayDo
 pub mod Watching
-pub mod Taking
 pub mod Written
+pub mod AttackLaws
 pub mod Samples
-pub mod TakingRows
 pub mod Trying
 pub mod TriedRows

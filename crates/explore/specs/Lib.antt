@@ -4,9 +4,8 @@ pub mod Broken
 pub mod DeedViews
 pub mod BreachViews
 pub mod MoveViews
-pub mod Takeovers
-pub mod TakeoverViews
 pub mod Texts
+pub mod DeedTexts
 pub mod FoundViews
 pub mod Moves
 pub mod Samples

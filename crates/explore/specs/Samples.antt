@@ -1,16 +1,14 @@
--- Runs that break something, each in another way, and runs that don't; runs in which processes are taken over; and what is tried of tasks.
-use Rattle.std.specs.Prelude.{ℕ, true, false, [], ◌∷◌, codes, Some, None}
+-- Runs that break something, each in another way, and runs that don't; and what is tried of tasks.
+use Rattle.std.specs.Prelude.{ℕ, false, [], ◌∷◌, codes, Some, None}
 use Rattle.rights.specs.Operations.{Write, Create}
-use Rattle.instruction_set.specs.Programs.{Cap_enter, Close, Fork, Halt, Invoke, Mkdirat, Number, Read, Register, Sendfd, Syscall}
+use Rattle.instruction_set.specs.Programs.{Fork, Invoke, Mkdirat, Number, Read, Register, Sendfd, Syscall}
 use Rattle.kernel.specs.Answers.{Event}
 use Rattle.kernel.specs.Hostile.{Own, Does}
-use Rattle.task.specs.Breaches.{reading_plan, opening_plan, writing_plan, moving_plan, small_tree}
+use Rattle.task.specs.Breaches.{reading_plan, opening_plan, writing_plan, moving_plan}
 use Rattle.task.specs.Escapes.{making_plan, trusting_plan}
-use Rattle.task.specs.Plans.{Plan, unmarked}
 use Rattle.explore.specs.Attacks.{AreTried, GoesBy, deed_by}
 use Rattle.explore.specs.Breaches.{Outside, Missing_right, Capability_mode}
 use Rattle.explore.specs.Broken.{Breaks, Move}
-use Rattle.explore.specs.Takeovers.{Begins, WayIn, Enters_at, Inherits, Takeover, TakesOver}
 
 -- an event of a process
 abbrev pub event_of_process : ℕ → Event
@@ -36,35 +34,6 @@ pub record SomeRunsBreak : Type 0 where
   pub sent : Breaks trusting_plan (child_calls (Sendfd (Number 0) (Number 1) (Number 0)) ∷ first_moves ∷ first_moves ∷ []) (Some Missing_right)
   pub only_sent : Breaks trusting_plan (child_calls (Sendfd (Number 0) (Number 1) (Number 0)) ∷ first_moves ∷ []) None
   pub as_written : Breaks making_plan ((event_of_process 1, Own) ∷ []) None
-
--- the first process makes this call, whatever its program has
-abbrev pub first_calls : Syscall → Move
-first_calls call = (event_of_process 0, Does (deed_by (Invoke call 0)))
-
--- its one process, of an untrusted program, enters the mode and makes a child
-abbrev pub forking_inside_plan : Plan
-forking_inside_plan = record {
-  wide = false;
-  nodes = small_tree;
-  grants = [];
-  programs = record (unmarked (codes "main") (Invoke Cap_enter 2 ∷ Invoke Fork 2 ∷ Halt ∷ [])) { marked = true } ∷ [];
-  starts = record { program = 0; mode = false; descriptors = [] } ∷ [];
-}
-
-abbrev pub takeover_by : ℕ → ℕ → WayIn → Takeover
-takeover_by process program entry = record { process = process; program = program; entry = entry }
-
-pub record SomeAreTakenOver : Type 0 where
-  pub at_start : TakesOver making_plan (child_calls (Mkdirat (Number 1) (codes "x")) ∷ []) (takeover_by 1 1 Begins ∷ [])
-  pub by_call : TakesOver forking_inside_plan (first_moves ∷ first_calls (Close (Number 0)) ∷ []) (takeover_by 0 0 (Enters_at 0) ∷ [])
-  -- a child, before the parent by whose call it is in the mode
-  pub by_parent :
-      TakesOver forking_inside_plan (first_moves ∷ first_moves ∷ child_calls (Close (Number 0)) ∷ first_calls (Close (Number 0)) ∷ [])
-      (takeover_by 1 0 Inherits ∷ takeover_by 0 0 (Enters_at 0) ∷ [])
-  -- outside the mode no deed is done, nor by a trusted process, nor where none is to be done
-  pub too_early : TakesOver forking_inside_plan (first_calls (Close (Number 0)) ∷ []) []
-  pub trusted : TakesOver making_plan (first_calls (Close (Number 0)) ∷ []) []
-  pub as_written : TakesOver making_plan ((event_of_process 1, Own) ∷ []) []
 
 pub record SomeAreTried : Type 0 where
   pub goes : GoesBy 1 (Invoke (Sendfd (Number 1) (Number 0) (Number 0)) 0)

@@ -45,8 +45,8 @@ fn status<T: Tree>(machine: &Machine<'_, T>, process: u8) -> Option<ActorStatus>
     }
 }
 
-/// One step of a machine by a move.
-pub(crate) fn step_by<T: Tree>(machine: &mut Machine<'_, T>, next: &Move<'_>) -> Result<Line, Stop>
+/// One step of a machine by a move. A deed of a process that may do none counts for nothing. After a refused growth it answers `Spent` for good. (own)
+pub fn step_by<T: Tree>(machine: &mut Machine<'_, T>, next: &Move<'_>) -> Result<Line, Stop>
     ensures step { IfOk result (λ line. StepsMachineAs (programs_of_plan machine.old.plan) (machine_world machine.old) (event_of next.now.event)
         (act_of next.now) (line_of line) (machine_world machine.new)) }
     ensures paths { OnOk result (are_paths_of next.now ≡ true) }

@@ -1,7 +1,8 @@
 //! Laws of runs that break something. Each is the contract of a function that does nothing.
 
 ghost use Rattle.explore.specs.Broken.{BreachesRefute};
-ghost use Rattle.explore.specs.Samples.{SomeAreTakenOver, SomeAreTried, SomeRunsBreak};
+ghost use Rattle.explore.specs.DeedTexts.{OwnStepsAreTraced};
+ghost use Rattle.explore.specs.Samples.{SomeAreTried, SomeRunsBreak};
 
 /// A task some run of which breaks something at its last step isn't confined, and without an attacker's move it isn't sandboxed.
 pub fn breaches_refute()
@@ -16,15 +17,14 @@ pub fn some_runs_break()
     ensures { SomeRunsBreak }
 {}
 
-/// To be taken over says something. A process is so that starts in the mode, one that enters it by the first instruction of its program, and a
-/// child that is in it by that, before its parent. None is so at a deed outside the mode, at one of a trusted program, and without a deed.
-pub fn some_processes_are_taken_over()
-    ensures { SomeAreTakenOver }
-{}
-
 /// To go by a descriptor, and to be tried, says something. A call that sends one descriptor through another goes by the other; no call goes by a
 /// number that it reads in a register, and one without a descriptor goes by none. Nothing is what is tried of a task without an untrusted
 /// program, and not of one with such a program.
 pub fn some_deeds_are_tried()
     ensures { SomeAreTried }
+{}
+
+/// In a run of attackers a step that is none of theirs is told as `run` tells it. (own)
+pub fn steps_without_attackers_are_traced()
+    ensures { OwnStepsAreTraced }
 {}

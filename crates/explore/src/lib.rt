@@ -5,9 +5,11 @@
 #![tactic(auto)]
 
 mod aims;
+pub mod attack_runs;
 pub mod attacks;
 pub mod breaches;
 pub mod breaking;
+pub mod deeds;
 mod details;
 mod digests;
 pub mod distances;
@@ -23,16 +25,16 @@ mod register_sets;
 mod runners;
 mod shrinking;
 mod states;
-pub mod taking_over;
 mod trails;
 mod trees;
 mod tried_bytes;
 pub mod writing;
 
+pub use attack_runs::add_attack;
 pub use attacks::{AttackAction, AttackActions, Move};
 pub use breaches::Breach;
-pub use breaking::breaks;
+pub use breaking::{breaks, step_by};
+pub use deeds::add_deed;
 pub use distances::Goal;
 pub use exploring::{Explored, FoundAttack, FoundRun, HowFar, Watcher, events_of, explore};
-pub use taking_over::{Entry, Takeover, takeovers};
 pub use writing::{add_breach, add_schedule, write_breach};

@@ -1,2 +1,1 @@
 pub mod PlayedViews
-pub mod DeedTexts

@@ -4,7 +4,6 @@
 
 mod changes;
 mod columns;
-pub mod deeds;
 mod heads;
 mod holdings;
 mod listings;
@@ -20,7 +19,6 @@ pub mod sheets;
 mod uses;
 pub mod views;
 
-pub use deeds::add_deed;
 pub use played::{Played, played_moves};
 pub use sheets::sheet_of;
 pub use views::{Outcome, Reviewed};

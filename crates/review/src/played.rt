@@ -17,6 +17,18 @@ pub struct Played {
     pub deed: Option<AttackAction>,
 }
 
+impl Played {
+    /// The move.
+    pub(crate) fn as_move(&self) -> Move<'_>
+        ensures { move_of result ≡ move_played self.now }
+    {
+        Move {
+            event: self.event,
+            deed: self.deed.as_ref(),
+        }
+    }
+}
+
 /// A move.
 fn played_move(alloc: Global, next: &Move<'_>) -> Result<Played, Memory>
     ensures { IfOk result (λ played. move_played played ≡ move_of next.now) }

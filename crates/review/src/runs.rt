@@ -1,18 +1,16 @@
 //! The run that breaks something, step by step.
 
-use crate::deeds::add_deed;
 use crate::listings::tail_begin;
 use crate::messages::{Queues, Traffic, call_in, next_call, traffic_of};
 use crate::played::Played;
 use crate::room::{Room, short};
 use crate::views::Reviewed;
-use explore::{AttackAction, Breach};
+use explore::{AttackAction, Breach, add_deed, step_by};
 use instruction_set::Syscall;
 use link_tree::LinkTree;
 use page::{Lane, Message, Piece, Place, Run, Step};
 use rights::Stop;
-use rights::limits::REGISTERS;
-use simulator::{Acted, Line, LineResult, Machine};
+use simulator::{Acted, LineResult, Machine};
 use task::Task;
 use texts::{Page, Say, parts_of, say};
 
@@ -82,17 +80,6 @@ fn deed_words(room: &mut Room, deed: &AttackAction) -> Vec<u8> {
     room.bytes(page)
 }
 
-/// One step by a move.
-fn step_by(machine: &mut Machine<'_, LinkTree>, played: &Played) -> Result<Line, Stop> {
-    let Some(deed) = &played.deed else {
-        return machine.step(played.event);
-    };
-    if !machine.may_stand_at(played.event.process, 0) {
-        return Err(Stop::Spent);
-    }
-    machine.step_as(played.event, deed.instruction(), [0; REGISTERS], 0)
-}
-
 impl<'a> Player<'a> {
     /// Whether a process is in the mode.
     fn is_inside(&self, process: u8) -> bool {
@@ -150,7 +137,7 @@ impl<'a> Player<'a> {
             let words = deed_words(room, deed);
             room.push(&mut self.doings, Doing { process, words });
         }
-        let line = step_by(&mut self.machine, played)?;
+        let line = step_by(&mut self.machine, &played.as_move())?;
         match line.acted {
             None => {}
             Some(acted) => self.keep(room, before, acted),

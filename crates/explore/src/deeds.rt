@@ -2,10 +2,10 @@
 
 ghost use Rattle.instruction_set.specs.Views.{instruction_of};
 ghost use Rattle.texts.specs.PageViews.{Adds};
-ghost use Rattle.review.specs.DeedTexts.{deed_text};
+ghost use Rattle.explore.specs.DeedTexts.{deed_text};
 
+use crate::attacks::AttackAction;
 use call_facts::add_call;
-use explore::AttackAction;
 use instruction_set::Instruction;
 use texts::Page;
 
