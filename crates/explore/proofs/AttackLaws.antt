@@ -2,7 +2,7 @@
 use Rattle.std.proofs.Common.{◌≡◌, ◌++◌, ◌∙◌, List, Some, None, ap, append_assoc, refl, subst, sym, ℕ}
 use Rattle.std.specs.Prelude.{Option, codes}
 use Rattle.std.specs.Fmt.{decimal}
-use Rattle.simulator.specs.Lines.{Line, ShownStep}
+use Rattle.simulator.specs.Lines.{ShownStep}
 use Rattle.simulator.specs.Traces.{acted_text}
 use Rattle.task.specs.Plans.{Plan}
 use Rattle.texts.proofs.PageLaws.{adds_both}

@@ -1,6 +1,6 @@
 -- What a step of a run breaks: the policy, or that no call is refused for want of a right or by capability mode. (own, after
 -- capsicum(4) and rights(4))
-use Rattle.std.specs.Prelude.{ℕ, Bool, false, ◌&&◌, nat_eq, true, List, [], ◌∷◌, Option, Some, None, if◌then◌else◌}
+use Rattle.std.specs.Prelude.{ℕ, Bool, false, ◌&&◌, nat_eq, List, [], ◌∷◌, Option, Some, None, if◌then◌else◌}
 use Rattle.std.specs.List.{list_any}
 use Rattle.rights.specs.Values.{Place, PathText}
 use Rattle.rights.specs.Errors.{Cause, CapMode, MissingRight}

@@ -3,7 +3,7 @@ use Rattle.std.specs.Prelude.{◌&&◌, ◌||◌, not, if◌then◌else◌, ℕ,
 use Rattle.std.specs.Str.{bytes_eq}
 use Rattle.records.specs.LineAccounts.{is_listed}
 use Rattle.records.specs.Beginnings.{children_of}
-use Rattle.records.specs.Calls.{Called, Ended, Omitted, RecordEntry, RecordedCalls, RecordedEvent, RecordedOutcome, Succeeds, Fails}
+use Rattle.records.specs.Calls.{Ended, Omitted, RecordEntry, RecordedCalls, RecordedEvent}
 
 -- the processes that forks have made
 abbrev pub forked_by : RecordedCalls → List ℕ

@@ -1,6 +1,6 @@
 -- Which names a link of a task may have: its own where the task starts, and what a rename may give it. A link is never made, and a rename
 -- doesn't follow the link that it moves, so there are no others. (own, after rename(2))
-use Rattle.std.specs.Prelude.{◌&&◌, ◌||◌, not, Bool, true, false, Option, Some, None, length, ◌-◌}
+use Rattle.std.specs.Prelude.{◌&&◌, ◌||◌, not, Bool, false, Option, Some, None, length, ◌-◌}
 use Rattle.std.specs.List.{list_any, slice_get}
 use Rattle.std.specs.Str.{bytes_eq}
 use Rattle.rights.specs.OperationLists.{lists}

@@ -5,7 +5,7 @@ use Rattle.std.proofs.lemmas.List.Folds.{list_all-map}
 use Rattle.std.proofs.lemmas.List.Sums.{AllPass-from_list_all}
 use Rattle.std.proofs.lemmas.Simd.{map-map}
 use Rattle.certificate.specs.Lines.{is_ceiling}
-use Rattle.rights.specs.Operations.{Operation, operations_of_rights}
+use Rattle.rights.specs.Operations.{Operation}
 use Rattle.rights.specs.RightViews.{right_operation_seen}
 use Rattle.rights.specs.Values.{RightSet}
 use Rattle.rights.specs.declared.operations.RightOperation.{RightOperation}
