@@ -1,6 +1,6 @@
 -- What taking a line says of a certificate, and what it keeps.
 use Rattle.std.proofs.Common.{◌≡◌, ◌≤◌, ◌&&◌, ◌++◌, [], ℕ, Bool, true, false, List, length, refl, ap, sym, ◌∙◌, arith}
-use Rattle.std.specs.Prelude.{Option, Some, None, Ok, Err, nat_le, option_map, if◌then◌else◌}
+use Rattle.std.specs.Prelude.{Option, Some, None, Ok, Err, is_some, nat_le, option_map, if◌then◌else◌}
 use Rattle.std.specs.Str.{bytes_eq}
 use Rattle.std.proofs.lemmas.Bool.Decides.{nat_tests}
 use Rattle.rights.specs.Limits.{most_programs}
@@ -114,6 +114,15 @@ room_yes c line names k m are names_listed classes_listed =
       named = named.1;
       counted = counted.2 ∙ ap length classed.1;
     }
+
+-- an option that holds something, and one that doesn't
+pub is_there : {A : Type 0} (o : Option A) → is_some o ≡ true → (k : A) × (Some k ≡ o)
+is_there (Some k) is = (k, refl)
+is_there None is = absurd cc
+
+pub not_there : {A : Type 0} (o : Option A) → is_some o ≡ false → None ≡ o
+not_there None is = refl
+not_there (Some k) is = absurd cc
 
 pub room_no_program : (c : Certificate) (line : Line) (names : List (List ℕ)) → names ≡ distinct bytes_eq (programs_named c)
     → None ≡ listed_with bytes_eq most_programs names (programs_in_line line) → has_room c line ≡ false

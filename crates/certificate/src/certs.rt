@@ -8,7 +8,7 @@ ghost use Rattle.certificate.specs.Views.{point_of, points_of};
 use crate::authorities::Authority;
 use crate::bounds::Bound;
 use crate::classes::compare_point;
-use crate::growth::{classes_with, extend, programs_with, stands};
+use crate::growth::{add_programs, classes_with, extend, has_room, stands};
 use crate::lines::{Channel, Line, Refusal};
 use crate::points::Point;
 use crate::program_names::ProgramNames;
@@ -135,9 +135,9 @@ impl Cert {
         ensures taken { LineTaken result self.old self.new (taken self.old (line_of line.now)) }
         ensures version { self.new.version ≡ self.old.version }
     {
-        let Some(programs) = programs_with(self.programs, line) else {
+        if !has_room(&self.programs, line) {
             return Err(Refusal::Limit);
-        };
+        }
         let channels: &[Channel] = &self.channels;
         let authorities: &[Authority] = &self.authorities;
         let Some(classes) = classes_with(self.classes, channels, authorities, line) else {
@@ -153,7 +153,7 @@ impl Cert {
             line,
         ) {
             Ok(()) => {
-                self.programs = programs;
+                add_programs(&mut self.programs, line);
                 self.classes = classes;
                 Ok(())
             }

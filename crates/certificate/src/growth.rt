@@ -1,6 +1,6 @@
 //! How a certificate grows by a line: whether there is room for it, whether it stands in its place, and what it adds.
 
-ghost use Rattle.std.specs.Prelude.{◌≡◌, ◌≤◌, ◌∷◌, ◌++◌, [], length, map, nat_lt, option_map, IfErr, MatchOption, OnErr, OnOk};
+ghost use Rattle.std.specs.Prelude.{◌≡◌, ◌≤◌, ◌∷◌, ◌++◌, [], Some, false, is_some, length, map, nat_lt, option_map, true, IfErr, MatchOption, OnErr, OnOk};
 ghost use Rattle.std.specs.List.{flat_map, list_all, list_any};
 ghost use Rattle.std.specs.Str.{bytes_eq};
 ghost use Rattle.rights.specs.Limits.{most_programs};
@@ -30,54 +30,95 @@ use texts::Name;
 const MAX_CLASSES: usize = 32;
 
 /// The names with that of a class's program, if it has one.
-fn with_class(programs: ProgramNames, class: Class) -> Option<ProgramNames>
+fn with_class(programs: &ProgramNames, class: Class) -> Option<ProgramNames>
     ensures { option_map programs_listed result
-        ≡ listed_with bytes_eq most_programs (programs_listed programs) (programs_of_class (class_of class)) }
+        ≡ listed_with bytes_eq most_programs (programs_listed programs.now) (programs_of_class (class_of class)) }
 {
     match class {
-        Class::Initial(_) => Some(programs),
+        Class::Initial(_) => Some(*programs),
         Class::MadeAt(program, _) => programs.with(&program),
     }
 }
 
 /// The names with that of the program that made the pairs of which a descriptor is an end.
-fn with_held(programs: ProgramNames, held: Option<Held>) -> Option<ProgramNames>
+fn with_held(programs: &ProgramNames, held: Option<Held>) -> Option<ProgramNames>
     ensures { option_map programs_listed result
-        ≡ listed_with bytes_eq most_programs (programs_listed programs) (programs_of_held (option_map held_of held)) }
+        ≡ listed_with bytes_eq most_programs (programs_listed programs.now) (programs_of_held (option_map held_of held)) }
 {
     let Some(held) = held else {
-        return Some(programs);
+        return Some(*programs);
     };
     if let Target::Socket(class, _) = held.target {
         return with_class(programs, class);
     }
-    Some(programs)
+    Some(*programs)
 }
 
 /// The names with those of the programs that a channel names.
-fn with_channel(programs: ProgramNames, channel: &Channel) -> Option<ProgramNames>
+fn with_channel(programs: &ProgramNames, channel: &Channel) -> Option<ProgramNames>
     ensures { option_map programs_listed result
-        ≡ listed_with bytes_eq most_programs (programs_listed programs) (programs_of_channel (channel_of channel.now)) }
+        ≡ listed_with bytes_eq most_programs (programs_listed programs.now) (programs_of_channel (channel_of channel.now)) }
 {
     match with_class(programs, channel.class) {
-        Some(programs) => with_held(programs, channel.sends),
+        Some(programs) => with_held(&programs, channel.sends),
         None => None,
     }
 }
 
 /// The programs that are named once the line is taken, if there is room for their names.
-pub(crate) fn programs_with(programs: ProgramNames, line: &Line) -> Option<ProgramNames>
+fn programs_with(programs: &ProgramNames, line: &Line) -> Option<ProgramNames>
     ensures { option_map programs_listed result
-        ≡ listed_with bytes_eq most_programs (programs_listed programs) (programs_in_line (line_of line.now)) }
+        ≡ listed_with bytes_eq most_programs (programs_listed programs.now) (programs_in_line (line_of line.now)) }
 {
     match line {
         Line::Block { program, .. } => programs.with(program),
-        Line::Register { .. } => Some(programs),
+        Line::Register { .. } => Some(*programs),
         Line::Slot { slot, .. } => with_held(programs, slot.held()),
         Line::Channel(channel) => with_channel(programs, channel),
         Line::Authority(program) => programs.with(program),
-        Line::Ceiling(_) => Some(programs),
+        Line::Ceiling(_) => Some(*programs),
         Line::Hold(held) => with_class(programs, held.class),
+    }
+}
+
+/// Whether a descriptor is of an end whose pairs a program made, which is named then.
+fn names_maker(held: &Held) -> bool
+    ensures { result ≡ false → programs_of_held (Some (held_of held.now)) ≡ [] }
+{
+    matches!(held.target, Target::Socket(Class::MadeAt(..), _))
+}
+
+/// Whether a line may name a program.
+fn names_program(line: &Line) -> bool
+    ensures { result ≡ false → programs_in_line (line_of line.now) ≡ [] }
+{
+    match line {
+        Line::Register { .. } | Line::Ceiling(_) => false,
+        Line::Slot { slot, .. } => match slot {
+            Slot::Closed => false,
+            Slot::Open(held) | Slot::Maybe(held) => names_maker(held),
+        },
+        Line::Block { .. } | Line::Channel(_) | Line::Authority(_) | Line::Hold(_) => true,
+    }
+}
+
+/// Whether there is room for the names of the programs that a line names.
+pub(crate) fn has_room(programs: &ProgramNames, line: &Line) -> bool
+    ensures { result ≡ is_some (listed_with bytes_eq most_programs (programs_listed programs.now) (programs_in_line (line_of line.now))) }
+{
+    !names_program(line) || programs_with(programs, line).is_some()
+}
+
+/// Adds the names of the programs that a line names, for which there is room.
+pub(crate) fn add_programs(programs: &mut ProgramNames, line: &Line)
+    requires { is_some (listed_with bytes_eq most_programs (programs_listed programs.old) (programs_in_line (line_of line.now))) ≡ true }
+    ensures { Some (programs_listed programs.new) ≡ listed_with bytes_eq most_programs (programs_listed programs.old) (programs_in_line (line_of line.now)) }
+{
+    if !names_program(line) {
+        return;
+    }
+    if let Some(more) = programs_with(programs, line) {
+        *programs = more;
     }
 }
 

@@ -424,11 +424,11 @@ impl Domain for Bound {
 
     /// Mode, registers and slots, each joined.
     fn join(&self, other: &Bound) -> Bound {
-        Bound {
-            mode: self.mode.join(&other.mode),
-            registers: self.registers.join(&other.registers),
-            slots: self.slots.join(&other.slots),
-        }
+        let mut joined = *self;
+        joined.mode = self.mode.join(&other.mode);
+        join_intervals(&mut joined.registers, &other.registers);
+        join_slots(&mut joined.slots, &other.slots);
+        joined
     }
 }
 

@@ -54,12 +54,12 @@ impl ProgramNames {
     }
 
     /// The same names and this one, if they are no more than eight.
-    pub(crate) fn with(self, name: &Name) -> Option<ProgramNames>
+    pub(crate) fn with(&self, name: &Name) -> Option<ProgramNames>
         ensures { option_map programs_listed result
-            ≡ listed_with bytes_eq most_programs (programs_listed self) (name_of name.now ∷ []) }
+            ≡ listed_with bytes_eq most_programs (programs_listed self.now) (name_of name.now ∷ []) }
     {
         if is_among(&self.names[..self.count], name.as_bytes()) {
-            return Some(self);
+            return Some(*self);
         }
         if self.count == MAX_PROGRAMS {
             return None;

@@ -50,8 +50,12 @@ impl<'a> OutcomeVisitor for Arrives<'a> {
     ghost kept = { λ t. None };
 
     fn visit(&mut self, outcome: &Outcome<'_>) -> bool {
-        self.arrival
-            .holds(outcome, &self.at.bound_met(outcome.point))
+        let at = self.at;
+        if outcome.point == at.point as usize + 1 {
+            return self.arrival.holds(outcome, &at.there);
+        }
+        let given = at.of.cert.bound_at(at.of.name.as_bytes(), outcome.point);
+        self.arrival.holds(outcome, &given)
     }
 }
 

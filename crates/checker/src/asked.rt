@@ -121,17 +121,3 @@ impl<'a> AskedProgram<'a> {
         }
     }
 }
-
-impl<'a> AskedPoint<'a> {
-    ghost use Rattle.checker.specs.PointViews.{met_from};
-
-    /// The bound that an outcome meets at a point: at the one behind it that one's, elsewhere the one that is given.
-    pub(crate) fn bound_met(&self, point: usize) -> Option<Bound>
-        ensures { option_map bound_of result ≡ met_from self.now point }
-    {
-        if point == self.point as usize + 1 {
-            return self.there;
-        }
-        self.of.cert.bound_at(self.of.name.as_bytes(), point)
-    }
-}

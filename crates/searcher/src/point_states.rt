@@ -144,13 +144,19 @@ fn grown_to(there: &Bound, outcome: &Outcome<'_>, changes: u32, constants: &[u32
     widened(there, &joined, constants, changes > MANY_CHANGES)
 }
 
-/// A bound as this version tells it, which is above what it was.
-fn told(bound: Bound, version: Version) -> Bound
-    ensures { bound_within (bound_of bound) (bound_of result) ≡ true }
+/// Has a bound grow to its join with an outcome; after a few changes with the registers widened that grew.
+fn grow(there: &mut Bound, outcome: &Outcome<'_>, changes: u32, constants: &[u32])
+    ensures outcome { bound_within (outcome_of outcome.now).bound (bound_of there.new) ≡ true }
+    ensures grows { bound_within (bound_of there.old) (bound_of there.new) ≡ true }
 {
-    let mut told = bound;
-    told.tell_in(version);
-    told
+    *there = grown_to(there, outcome, changes, constants);
+}
+
+/// Has a bound be as this version tells it, which is above what it was.
+fn tell(bound: &mut Bound, version: Version)
+    ensures { bound_within (bound_of bound.old) (bound_of bound.new) ≡ true }
+{
+    bound.tell_in(version);
 }
 
 impl PointState {
@@ -169,18 +175,19 @@ impl PointState {
         ensures grows { (o : OutcomeSeen) → lies_in self.old.bound o ≡ true → lies_in self.new.bound o ≡ true }
         ensures waits { (self.new.waits ≡ true) ⊎ (self.new.bound ≡ self.old.bound) }
     {
-        let Some(there) = &self.bound else {
-            self.bound = Some(told(outcome.bound_there(), version));
+        let Some(there) = &mut self.bound else {
+            let mut first = outcome.bound_there();
+            tell(&mut first, version);
+            self.bound = Some(first);
             self.waits = true;
             return;
         };
         if outcome.is_within(there) {
             return;
         }
-        let changes = self.changes.saturating_add(1);
-        let grown = grown_to(there, outcome, changes, constants);
-        self.changes = changes;
-        self.bound = Some(told(grown, version));
+        self.changes = self.changes.saturating_add(1);
+        grow(there, outcome, self.changes, constants);
+        tell(there, version);
         self.waits = true;
     }
 }

@@ -62,7 +62,9 @@ pub fn carried_on(site: &Site<'_>, instruction: &Instruction) -> Option<Bound>
     requires { leaves_known (instruction_of instruction.now) ≡ true }
     ensures { option_map bound_of result ≡ carried_at site.now (instruction_of instruction.now) }
 {
-    let mut met = met_next(site, instruction)?;
-    met.tell_in(site.cert.version());
-    Some(met)
+    let mut met = met_next(site, instruction);
+    if let Some(bound) = &mut met {
+        bound.tell_in(site.cert.version());
+    }
+    met
 }

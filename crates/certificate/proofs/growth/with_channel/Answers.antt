@@ -10,12 +10,12 @@ use Rattle.certificate.proofs.growth.with_channel.Goals as goal
 pub returns-in-None : goal.returns-in-None
 returns-in-None c =
     let channel = channel_of c.args.channel.now in
-    sym (listed-append_none bytes_eq most_programs (programs_listed c.args.programs) (programs_of_class channel.class)
+    sym (listed-append_none bytes_eq most_programs (programs_listed c.args.programs.now) (programs_of_class channel.class)
     (programs_of_held channel.sends) c.in-None.ensures)
 
 pub returns-in-Some : goal.returns-in-Some
 returns-in-Some c =
     let channel = channel_of c.args.channel.now in
     let k = programs_listed c.in-Some.programs in
-    c.with_held.ensures ∙ sym (listed-append bytes_eq most_programs (programs_listed c.args.programs) (programs_of_class channel.class)
+    c.with_held.ensures ∙ sym (listed-append bytes_eq most_programs (programs_listed c.args.programs.now) (programs_of_class channel.class)
     (programs_of_held channel.sends) k c.in-Some.ensures)

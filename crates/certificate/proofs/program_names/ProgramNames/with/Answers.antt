@@ -12,14 +12,14 @@ use Rattle.certificate.proofs.program_names.ProgramNames.with.Goals as goal
 
 pub returns-then-is_among : goal.returns-then-is_among
 returns-then-is_among c =
-    let p = c.args.self in
+    let p = c.args.self.now in
     let name = name_of c.args.name.now in
     sym (listed_known bytes_eq most_programs (programs_listed p) name (programs_few p)
     (ap (λ text. list_any (λ y. bytes_eq y text) (programs_listed p)) (sym c.as_bytes.ensures.bytes) ∙ sym c.is_among.ensures ∙ c.if-is_among.true))
 
 pub returns-then-self-eq-MAX_PROGRAMS : goal.returns-then-self-eq-MAX_PROGRAMS
 returns-then-self-eq-MAX_PROGRAMS c =
-    let p = c.args.self in
+    let p = c.args.self.now in
     let name = name_of c.args.name.now in
     let full : length (programs_listed p) ≡ most_programs = p.filled ∙ c.if-self-eq-MAX_PROGRAMS.true in
     sym (listed_full bytes_eq most_programs (programs_listed p) name full
@@ -27,7 +27,7 @@ returns-then-self-eq-MAX_PROGRAMS c =
 
 pub invariant_of-result : goal.invariant_of-result
 invariant_of-result c =
-    let p = c.args.self in
+    let p = c.args.self.now in
     let not_full : p.count ≢ most_programs = c.if-self-eq-MAX_PROGRAMS.false in
     let few : p.count < most_programs = omega (arith, p.few, not_full) in
     let room : p.count < length p.names = search (rules, few) in
@@ -38,7 +38,7 @@ invariant_of-result c =
 
 pub returns : goal.returns
 returns c =
-    let p = c.args.self in
+    let p = c.args.self.now in
     let name = name_of c.args.name.now in
     let not_full : p.count ≢ most_programs = c.if-self-eq-MAX_PROGRAMS.false in
     let few : length (programs_listed p) < most_programs = omega (arith, p.few, p.filled, not_full) in
